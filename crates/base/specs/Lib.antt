@@ -1,0 +1,4 @@
+pub mod Limits
+pub mod Refusals
+pub mod Loop
+pub mod Lists

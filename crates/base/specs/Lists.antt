@@ -1,0 +1,28 @@
+-- Words for lists: sums of sizes, a list cut into groups, one list laid over another, a part of a list.
+use Prim.Native.Nat.{ℕ, _+_}
+use mathlib.Core.List.{List, [], _∷_, _++_}
+use lib.ListN.{length, take, drop}
+
+-- the sum of these sizes
+unfoldable pub total : List ℕ → ℕ
+total [] = 0
+total (n ∷ ns) = n + total ns
+
+module _ {A : Type 0} where
+  -- the list cut into groups of these sizes, one after another
+  unfoldable pub cut : List ℕ → List A → List (List A)
+  cut [] xs = []
+  cut (n ∷ ns) xs = take n xs ∷ cut ns (drop n xs)
+
+  -- `front` laid over the first places of `back`: the places beyond keep what they hold
+  abbrev pub over : List A → List A → List A
+  over front back = front ++ drop (length front) back
+
+  -- the k places from a on
+  unfoldable pub part : ℕ → ℕ → List A → List A
+  part a k s = take k (drop a s)
+
+  -- those places changed by f, and the others left alone
+  unfoldable pub within : ℕ → ℕ → (List A → List A) → List A → List A
+  unfolding part
+  within a k f s = take a s ++ (f (part a k s) ++ drop k (drop a s))

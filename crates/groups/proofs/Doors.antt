@@ -1,0 +1,74 @@
+-- What the checks leave known where they are passed.
+use mathlib.Core.Path.{_≡_, refl, sym, ap, _∙_}
+use mathlib.Core.List.{List, []}
+use Prim.Native.Nat.{ℕ, _+_, _<_, _≤_}
+use native.Mathlib.Omega.{arith}
+use borrow.Author.Tests.{ltb-false, leb-false, eqb-true, eqb-false, le-ltb, ne-eqb}
+use lib.Dec.{ltb, leb, eqb}
+use lib.Ieee.{Float}
+use lib.ListN.{length, take, drop, getD}
+use Rattle.base.specs.Lists.{total, cut}
+use Rattle.base.specs.Refusals.{refuse, when, unless, _orElse_, guarded}
+use Rattle.base.proofs.Order.{both-passed, no-fault, needed-there, passed-answer}
+use Rattle.base.proofs.Cuts.{total-split, total-turn}
+use Rattle.stats.specs.declared.Figure.{Figure}
+use Rattle.stats.specs.Figures.{meanRefusal, meanAnswer, refusedFigure}
+use Rattle.stats.specs.Sums.{hasNan, meanOf, sqDev}
+use Rattle.groups.specs.Checks.{Sized, Passed, sizesRefusal, groupFault, groupsRefusal, oneWayRefusal, viewRefusal}
+use Rattle.groups.specs.Rows.{rowOf, rowAnswer, noRow}
+
+pub sized : (xs : List Float) (ns : List ℕ) → sizesRefusal xs ns .number ≡ 0 → Sized xs ns
+unfolding sizesRefusal
+sized xs ns h =
+    let p = both-passed (when (ltb 16 (length ns)) (refuse 11 1 (length ns))) _ h in
+    let q = both-passed (when (ltb 512 (length xs)) (refuse 11 2 (length xs))) _ (p .1) in
+    record {
+      groups = ltb-false 16 (length ns) (no-fault (ltb 16 (length ns)) (refuse 11 1 (length ns)) (eqb-false 11 0 refl) (p .0));
+      readings = ltb-false 512 (length xs) (no-fault (ltb 512 (length xs)) (refuse 11 2 (length xs)) (eqb-false 11 0 refl) (q .0));
+      adds = eqb-true (total ns) (length xs) (needed-there (eqb (total ns) (length xs)) (refuse 10 (total ns) (length xs)) (eqb-false 10 0 refl) (q .1));
+    }
+
+pub passed : (xs : List Float) (ns : List ℕ) → oneWayRefusal xs ns .number ≡ 0 → Passed xs ns
+unfolding oneWayRefusal
+passed xs ns h =
+    let p = both-passed (sizesRefusal xs ns) _ h in
+    let q = both-passed (when (ltb (length ns) 2) (refuse 3 (length ns) 0)) (groupsRefusal 1 (cut ns xs)) (p .1) in
+    record {
+      sizes = sized xs ns (p .0);
+      two = ltb-false (length ns) 2 (no-fault (ltb (length ns) 2) (refuse 3 (length ns) 0) (eqb-false 3 0 refl) (q .0));
+      fine = q .1;
+    }
+
+-- a view that is not refused: its group is there, and ends within the readings
+pub record Viewed (xs : List Float) (ns : List ℕ) (g : ℕ) : Type 0 where
+  pub sizes : Sized xs ns
+  pub there : g < length ns
+  pub ends : total (take g ns) + getD ns g 0 ≤ length xs
+
+pub viewed : (xs : List Float) (ns : List ℕ) (g : ℕ) → viewRefusal xs ns g .number ≡ 0 → Viewed xs ns g
+unfolding viewRefusal
+viewed xs ns g h =
+    let p = both-passed (sizesRefusal xs ns) (when (leb (length ns) g) (refuse 14 g 0)) h in
+    let s = sized xs ns (p .0) in
+    let t : g < length ns = leb-false (length ns) g (no-fault (leb (length ns) g) (refuse 14 g 0) (eqb-false 14 0 refl) (p .1)) in
+    record { sizes = s; there = t; ends = omega (arith, total-split ns g, total-turn ns g t) }
+
+-- a group without a fault has two readings
+pub two-there : (k : ℕ) (group : List Float) → groupFault k group .number ≡ 0 → 2 ≤ length group
+unfolding groupFault
+two-there k group h =
+    let p = both-passed (when (ltb (length group) 2) (refuse 2 2 (length group))) (when (hasNan group) (refuse 4 k 0)) h in
+    ltb-false (length group) 2 (no-fault (ltb (length group) 2) (refuse 2 2 (length group)) (eqb-false 2 0 refl) (p .0))
+
+-- so its row is worked out
+pub row-there : (group : List Float) → 1 ≤ length group → length group ≤ 512 → rowAnswer group ≡ rowOf group
+unfolding rowAnswer guarded meanRefusal
+row-there group l u = rw (le-ltb 512 (length group) u, ne-eqb (length group) 0 (λ e. omega arith))
+
+-- the row from what its calls answer, where the mean is not refused
+pub row-made : (group : List Float) (m : Figure) (d : Float) → meanRefusal (length group) .number ≡ 0 → m ≡ meanAnswer group → d ≡ sqDev (m .value) group
+    → record { size = length group; mean = m .value; «sq_dev» = d } ≡ rowAnswer group
+unfolding meanAnswer rowAnswer
+row-made group m d z e q =
+    let v : m .value ≡ meanOf group = ap (λ (f : Figure). f .value) (e ∙ passed-answer (meanRefusal (length group)) refusedFigure _ z) in
+    rw (q, v) (sym (passed-answer (meanRefusal (length group)) noRow (rowOf group) z))

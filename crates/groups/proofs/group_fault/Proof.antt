@@ -1,0 +1,44 @@
+-- `groups::group_fault` meets its contract.
+use Prim.Native.Nat.{_-_}
+use mathlib.Core.Path.{sym, _∙_}
+use borrow.Author.Needs.{needs}
+use borrow.Author.Tests.{lt-ltb, le-ltb}
+use Rattle.groups.specs.Checks.{groupFault}
+use Rattle.groups.proofs.group_fault.Statement.{statement}
+use Rattle.groups.proofs.group_fault.Tie as tie
+
+new-requires : tie.Need-new-requires
+new-requires c κs = search needs
+
+returns : tie.Need-returns
+unfolding groupFault
+returns c = rw (c .new .ensures, lt-ltb _ 2 (c .before .if1 .taken))
+
+has-nan-requires : tie.Need-has-nan-requires
+has-nan-requires c κs = search needs
+
+new-requires-2 : tie.Need-new-requires-2
+new-requires-2 c κs = search needs
+
+returns-2 : tie.Need-returns-2
+unfolding groupFault
+returns-2 c = rw (c .new2 .ensures, le-ltb _ 2 (c .before .before .before .if1 .left), sym (c .before .before .has-nan .ensures) ∙ c .before .if2 .taken)
+
+none-requires : tie.Need-none-requires
+none-requires c κs = search needs
+
+returns-3 : tie.Need-returns-3
+unfolding groupFault
+returns-3 c = rw (c .none .ensures, le-ltb _ 2 (c .before .before .before .if1 .left), sym (c .before .before .has-nan .ensures) ∙ c .before .if2 .left)
+
+pub group-fault-spec : {M : Type 1} → statement M
+group-fault-spec =
+    tie.close
+    (tie.spec
+    new-requires
+    returns
+    has-nan-requires
+    new-requires-2
+    returns-2
+    none-requires
+    returns-3)

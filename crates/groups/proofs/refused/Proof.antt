@@ -1,0 +1,16 @@
+-- `groups::refused` meets its contract.
+use Prim.Native.Nat.{_-_}
+use borrow.Author.Needs.{needs}
+use Rattle.groups.specs.Rows.{emptyRows}
+use Rattle.groups.proofs.refused.Statement.{statement}
+use Rattle.groups.proofs.refused.Tie as tie
+
+empty-requires : tie.Need-empty-requires
+empty-requires c κs = search needs
+
+returns : tie.Need-returns
+unfolding emptyRows
+returns c = rw (c .empty .ensures)
+
+pub refused-spec : {M : Type 1} → statement M
+refused-spec = tie.close (tie.spec empty-requires returns)

@@ -1,0 +1,199 @@
+// One-way data: the checks at the door, the view of one group, and the row that each group is worked into.
+use base::Refusal;
+ghost use mathlib.Core.Path.{_≡_};
+ghost use Prim.Native.Nat.{ℕ, _≤_};
+ghost use lib.ListN.{length};
+ghost use Rattle.base.specs.Lists.{total, cut};
+ghost use Rattle.groups.specs.Checks.{Sized, Passed, sizesRefusal, groupFault, groupsRefusal, oneWayRefusal, viewRefusal, viewOf};
+ghost use Rattle.groups.specs.Rows.{emptyRow, rowAnswer, rowsOf, refusedStats, validateAnovaGroups};
+
+// What the analyses need of a group: its size, its mean, and the squared distances of its readings from the mean, added up.
+pub struct Row {
+    pub size: u32,
+    pub mean: f64,
+    pub sq_dev: f64,
+}
+
+// The rows of all groups, and empty rows behind them; or a refusal.
+pub struct GroupStats {
+    pub refusal: Refusal,
+    pub n_groups: usize,
+    pub rows: [Row; 16],
+}
+
+impl Row {
+    // The row of no group.
+    pub fn empty() -> Row
+        ensures { λ r. ⌜ r ≡ emptyRow ⌝ }
+    {
+        Row {
+            size: 0,
+            mean: 0.0,
+            sq_dev: 0.0,
+        }
+    }
+
+    // The row of a group of 1 to 512 readings; the empty row where `mean` refuses.
+    pub fn of(group: &[f64]) -> Row
+        ensures { λ r. ⌜ r ≡ rowAnswer (now (group .entry)) ⌝ }
+    {
+        let m = stats::mean(group);
+        if m.refusal.number != 0 {
+            return Row::empty();
+        }
+        let mean = m.value;
+        let d = stats::sq_dev(group, mean);
+        Row {
+            size: group.len() as u32,
+            mean: mean,
+            sq_dev: d,
+        }
+    }
+}
+
+// The sum of the sizes. It has 64 bits, so that 16 sizes of 32 bits cannot wrap.
+fn total_of(sizes: &[u32]) -> u64
+    requires { ⌜ length (now sizes) ≤ 16 ⌝ }
+    ensures { λ r. ⌜ r ≡ total (now (sizes .entry)) ⌝ }
+{
+    let mut t: u64 = 0;
+    let mut g = 0;
+    while g < sizes.len() {
+        t += sizes[g] as u64;
+        g += 1;
+    }
+    t
+}
+
+// Too many groups, too many readings, sizes that do not add up.
+fn sizes_refusal(readings: &[f64], sizes: &[u32]) -> Refusal
+    ensures { λ r. ⌜ r ≡ sizesRefusal (now (readings .entry)) (now (sizes .entry)) ⌝ }
+{
+    if base::MOST_GROUPS < sizes.len() {
+        return Refusal::new(11, 1, sizes.len() as u64);
+    }
+    if base::MOST_READINGS < readings.len() {
+        return Refusal::new(11, 2, readings.len() as u64);
+    }
+    let needed = total_of(sizes);
+    if needed != readings.len() as u64 {
+        return Refusal::new(10, needed, readings.len() as u64);
+    }
+    Refusal::none()
+}
+
+// Group number k, counted from 1: fewer than two readings, or a NaN.
+fn group_fault(group: &[f64], k: u64) -> Refusal
+    ensures { λ r. ⌜ r ≡ groupFault k (now (group .entry)) ⌝ }
+{
+    if group.len() < 2 {
+        return Refusal::new(2, 2, group.len() as u64);
+    }
+    if stats::has_nan(group) {
+        return Refusal::new(4, k, 0);
+    }
+    Refusal::none()
+}
+
+// The first group that has a fault.
+fn groups_refusal(readings: &[f64], sizes: &[u32]) -> Refusal
+    requires { ⌜ Sized (now readings) (now sizes) ⌝ }
+    ensures { λ r. ⌜ r ≡ groupsRefusal 1 (cut (now (sizes .entry)) (now (readings .entry))) ⌝ }
+{
+    let mut at = 0;
+    let mut g = 0;
+    while g < sizes.len() {
+        let end = at + sizes[g] as usize;
+        let r = group_fault(&readings[at..end], (g + 1) as u64);
+        if r.number != 0 {
+            return r;
+        }
+        at = end;
+        g += 1;
+    }
+    Refusal::none()
+}
+
+// The one-way checks, in document 01's order.
+fn one_way_refusal(readings: &[f64], sizes: &[u32]) -> Refusal
+    ensures { λ r. ⌜ r ≡ oneWayRefusal (now (readings .entry)) (now (sizes .entry)) ⌝ }
+{
+    let r = sizes_refusal(readings, sizes);
+    if r.number != 0 {
+        return r;
+    }
+    if sizes.len() < 2 {
+        return Refusal::new(3, sizes.len() as u64, 0);
+    }
+    groups_refusal(readings, sizes)
+}
+
+// Why `group` hands back nothing; number 0 where it hands back the group.
+pub fn group_refusal(readings: &[f64], sizes: &[u32], g: usize) -> Refusal
+    ensures { λ r. ⌜ r ≡ viewRefusal (now (readings .entry)) (now (sizes .entry)) g ⌝ }
+{
+    let r = sizes_refusal(readings, sizes);
+    if r.number != 0 {
+        return r;
+    }
+    if sizes.len() <= g {
+        return Refusal::new(14, g as u64, 0);
+    }
+    Refusal::none()
+}
+
+// The readings of group g, counted from 0, as a part of the readings that were lent; empty where `group_refusal` refuses.
+pub fn group<'a>(readings: &'a [f64], sizes: &[u32], g: usize) -> &'a [f64]
+    ensures { λ r. ⌜ now r ≡ viewOf (now (readings .entry)) (now (sizes .entry)) g ⌝ }
+{
+    let r = group_refusal(readings, sizes, g);
+    if r.number != 0 {
+        return &readings[0..0];
+    }
+    let at = total_of(&sizes[..g]) as usize;
+    let end = at + sizes[g] as usize;
+    &readings[at..end]
+}
+
+// The rows of groups that passed the checks, and empty rows behind them.
+fn rows_of(readings: &[f64], sizes: &[u32]) -> [Row; 16]
+    requires { ⌜ Passed (now readings) (now sizes) ⌝ }
+    ensures { λ r. ⌜ r ≡ rowsOf (cut (now (sizes .entry)) (now (readings .entry))) ⌝ }
+{
+    let mut rows = [Row::empty(); 16];
+    let mut at = 0;
+    let mut g = 0;
+    while g < sizes.len() {
+        let end = at + sizes[g] as usize;
+        rows[g] = Row::of(&readings[at..end]);
+        at = end;
+        g += 1;
+    }
+    rows
+}
+
+fn refused(refusal: Refusal) -> GroupStats
+    ensures { λ r. ⌜ r ≡ refusedStats refusal ⌝ }
+{
+    GroupStats {
+        refusal: refusal,
+        n_groups: 0,
+        rows: [Row::empty(); 16],
+    }
+}
+
+// The groups' rows, where the one-way checks are passed.
+pub fn validate_anova_groups(readings: &[f64], sizes: &[u32]) -> GroupStats
+    ensures { λ r. ⌜ r ≡ validateAnovaGroups (now (readings .entry)) (now (sizes .entry)) ⌝ }
+{
+    let r = one_way_refusal(readings, sizes);
+    if r.number != 0 {
+        return refused(r);
+    }
+    let rows = rows_of(readings, sizes);
+    GroupStats {
+        refusal: Refusal::none(),
+        n_groups: sizes.len(),
+        rows: rows,
+    }
+}

@@ -1,0 +1,88 @@
+-- `oneway::fisher::fisher_anova` meets its contract.
+use Prim.Native.Nat.{_-_}
+use native.Mathlib.Omega.{arith}
+use borrow.Author.Needs.{needs}
+use lib.Seq.{length-take-le}
+use Rattle.oneway.specs.Fisher.{fisherAnova}
+use Rattle.oneway.proofs.fisher.fisher_anova.Statement.{statement}
+use Rattle.oneway.proofs.fisher.fisher_anova.Tie as tie
+
+summarize-requires : tie.Need-summarize-requires
+summarize-requires c κs = search needs
+
+sum-requires : tie.Need-sum-requires
+sum-requires c κs = search needs
+
+int-to-float-canon : tie.Need-int-to-float-canon
+int-to-float-canon c = search needs
+
+canon-requires : tie.Need-canon-requires
+canon-requires c κs = search needs
+
+sum-rows-requires : tie.Need-sum-rows-requires
+sum-rows-requires c κs = search needs
+
+sum-rows-requires-2 : tie.Need-sum-rows-requires-2
+sum-rows-requires-2 c κs = search needs
+
+cast-minus : tie.Need-cast-minus
+cast-minus c = omega arith
+
+minus-requires : tie.Need-minus-requires
+minus-requires c κs = search needs
+
+int-to-float-df-between : tie.Need-int-to-float-df-between
+int-to-float-df-between c = search needs
+
+cast-minus-2 : tie.Need-cast-minus-2
+cast-minus-2 c = omega arith
+
+minus-requires-2 : tie.Need-minus-requires-2
+minus-requires-2 c κs = search needs
+
+int-to-float-df-within : tie.Need-int-to-float-df-within
+int-to-float-df-within c = search needs
+
+canon-requires-2 : tie.Need-canon-requires-2
+canon-requires-2 c κs = search needs
+
+canon-requires-3 : tie.Need-canon-requires-3
+canon-requires-3 c κs = search needs
+
+none-requires : tie.Need-none-requires
+none-requires c κs = search needs
+
+canon-requires-4 : tie.Need-canon-requires-4
+canon-requires-4 c κs = search needs
+
+canon-requires-5 : tie.Need-canon-requires-5
+canon-requires-5 c κs = search needs
+
+returns : tie.Need-returns
+unfolding fisherAnova
+returns c =
+    let start = c .before .before .before .before .before .before .before .before .before .before .before .before .before .before .before .before .before .before in
+    rw (c .canon5 .ensures, c .before .canon4 .ensures, c .before .before .none .ensures, c .before .before .before .before .before .canon3 .ensures, c .before .before .before .before .before .before .canon2 .ensures, c .before .before .before .before .before .before .before .before .minus2 .ensures, c .before .before .before .before .before .before .before .before .before .before .minus .ensures, c .before .before .before .before .before .before .before .before .before .before .before .sum-rows2 .ensures, c .before .before .before .before .before .before .before .before .before .before .before .before .sum-rows .ensures, c .before .before .before .before .before .before .before .before .before .before .before .before .before .canon .ensures, c .before .before .before .before .before .before .before .before .before .before .before .before .before .before .before .sum .ensures, c .before .before .before .before .before .before .before .before .before .before .before .before .before .before .before .before .summarize .ensures, length-take-le (start .args .k) (start .args .rows) (omega arith))
+
+pub fisher-anova-spec : {M : Type 1} → statement M
+fisher-anova-spec =
+    tie.close
+    (tie.spec
+    summarize-requires
+    sum-requires
+    int-to-float-canon
+    canon-requires
+    sum-rows-requires
+    sum-rows-requires-2
+    cast-minus
+    minus-requires
+    int-to-float-df-between
+    cast-minus-2
+    minus-requires-2
+    int-to-float-df-within
+    canon-requires-2
+    canon-requires-3
+    none-requires
+    canon-requires-4
+    canon-requires-5
+    returns)

@@ -1,0 +1,4 @@
+pub mod Results
+pub mod Fisher
+pub mod Welch
+pub mod Anova

@@ -1,0 +1,132 @@
+// Welch's analysis, which lets the groups' variances differ: each group has a weight.
+use crate::OneWayAnovaResult;
+use crate::summary;
+use base::Refusal;
+use groups::Row;
+ghost use mathlib.Core.Path.{_≡_};
+ghost use Prim.Native.Nat.{_≤_};
+ghost use lib.ListN.{take};
+ghost use Rattle.stats.specs.Sums.{sumBy};
+ghost use Rattle.oneway.specs.Results.{Small};
+ghost use Rattle.oneway.specs.Welch.{weigh, weighedRows, shareOf, welchAnova};
+
+// A row with its weight in place of its squared distances.
+pub struct Weighed {
+    pub size: u32,
+    pub mean: f64,
+    pub weight: f64,
+}
+
+// What is added up over the weighed rows.
+pub enum Share {
+    Weight,
+    Mean,
+    Spread(f64),
+    Rest(f64),
+}
+
+// The weight of a row among k. A variance below 1e-15, of a group that is as good as constant, has the largest weight.
+fn weigh(row: Row, k: u32) -> Weighed
+    ensures { λ r. ⌜ r ≡ weigh k row ⌝ }
+{
+    let variance = row.sq_dev / (base::minus(row.size, 1) as f64);
+    if variance < 1e-15 {
+        return Weighed {
+            size: row.size,
+            mean: row.mean,
+            weight: 1.7976931348623157e308 / (k as f64),
+        };
+    }
+    Weighed {
+        size: row.size,
+        mean: row.mean,
+        weight: (row.size as f64) / variance,
+    }
+}
+
+fn weighed_rows(rows: [Row; 16], k: usize) -> [Weighed; 16]
+    requires { ⌜ k ≤ 16 ⌝ }
+    ensures { λ r. ⌜ r ≡ weighedRows (take k rows) ⌝ }
+{
+    let zero = Weighed {
+        size: 0,
+        mean: 0.0,
+        weight: 0.0,
+    };
+    let mut out = [zero; 16];
+    let mut g = 0;
+    while g < k {
+        out[g] = weigh(rows[g], k as u32);
+        g += 1;
+    }
+    out
+}
+
+fn term(row: Weighed, what: Share) -> f64
+    ensures { λ r. ⌜ r ≡ shareOf what row ⌝ }
+{
+    match what {
+        Share::Weight => row.weight,
+        Share::Mean => row.weight * row.mean,
+        Share::Spread(mean) => {
+            let d = row.mean - mean;
+            row.weight * (d * d)
+        }
+        Share::Rest(sum_weights) => {
+            let d = 1.0 - row.weight / sum_weights;
+            d * d / (base::minus(row.size, 1) as f64)
+        }
+    }
+}
+
+fn sum_weighed(rows: [Weighed; 16], k: usize, what: Share) -> f64
+    requires { ⌜ k ≤ 16 ⌝ }
+    ensures { λ r. ⌜ r ≡ sumBy (shareOf what) (take k rows) ⌝ }
+{
+    let mut t = -0.0;
+    let mut g = 0;
+    while g < k {
+        t = t + term(rows[g], what);
+        g += 1;
+    }
+    float::canon(t)
+}
+
+pub fn welch_anova(rows: [Row; 16], k: usize) -> OneWayAnovaResult
+    requires { ⌜ Small k rows ⌝ }
+    ensures { λ r. ⌜ r ≡ welchAnova (take k rows) ⌝ }
+{
+    let s = summary::summarize(rows, k);
+    let n = k as u32;
+    let weighed = weighed_rows(rows, k);
+    let sum_weights = sum_weighed(weighed, k, Share::Weight);
+    let weighted_grand_mean = sum_weighed(weighed, k, Share::Mean) / sum_weights;
+    let df_between = base::minus(n, 1) as f64;
+    let f_numerator = sum_weighed(weighed, k, Share::Spread(weighted_grand_mean)) / df_between;
+    let adjustment = sum_weighed(weighed, k, Share::Rest(sum_weights));
+    let k_squared_less_one = base::minus(n * n, 1) as f64;
+    let lambda = adjustment * 3.0 / k_squared_less_one;
+    let f_stat = f_numerator / (1.0 + 2.0 * lambda * (base::minus(n, 2) as f64) / 3.0);
+    let df_within = k_squared_less_one / (3.0 * adjustment);
+    let group_sizes = s.group_sizes;
+    let group_means = s.group_means;
+    OneWayAnovaResult {
+        refusal: Refusal::none(),
+        statistic: float::canon(f_stat),
+        df_between: df_between,
+        df_within: float::canon(df_within),
+        has_ss: false,
+        ss_between: 0.0,
+        ss_within: 0.0,
+        ss_total: 0.0,
+        has_ms: false,
+        ms_between: 0.0,
+        ms_within: 0.0,
+        n_groups: k,
+        n_total: s.n_total,
+        group_sizes: group_sizes,
+        group_means: group_means,
+        has_grand_mean: false,
+        grand_mean: 0.0,
+    }
+}

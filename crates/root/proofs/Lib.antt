@@ -1,0 +1,9 @@
+pub mod Newton
+pub mod Longer
+pub mod Floor
+pub mod Scaled
+pub mod Cases
+pub mod Patterns
+pub mod Unique
+pub mod Midpoints
+pub mod Right
