@@ -1,0 +1,61 @@
+-- `replay::cases::readings` meets its contract.
+use Prim.Native.Nat.{_≤_, _-_}
+use mathlib.Core.Path.{_≡_}
+use native.Mathlib.Omega.{arith}
+use borrow.Author.Needs.{needs}
+use lib.ListN.{length, length-set}
+use Rattle.replay.proofs.cases.readings.Statement.{statement}
+use Rattle.replay.proofs.cases.readings.Tie as tie
+
+abbrev Inv-loop : tie.InvT-loop
+Inv-loop bytes from n list₀ i₀ list i = (i ≤ n) × (length list ≡ 600)
+
+abbrev μ-loop : tie.MeasureT-loop
+μ-loop bytes from n list₀ i₀ list i = n - i
+
+loop-holds : tie.Need-loop-holds Inv-loop μ-loop
+loop-holds c = search needs
+
+mul-reading : tie.Need-mul-reading Inv-loop μ-loop
+mul-reading c = omega arith
+
+add-reading : tie.Need-add-reading Inv-loop μ-loop
+add-reading c = omega arith
+
+reading-requires : tie.Need-reading-requires Inv-loop μ-loop
+reading-requires c κs = search needs
+
+mul-list : tie.Need-mul-list Inv-loop μ-loop
+mul-list c = omega arith
+
+array-write-list : tie.Need-array-write-list Inv-loop μ-loop
+array-write-list c = search needs
+
+add-i : tie.Need-add-i Inv-loop μ-loop
+add-i c = omega arith
+
+loop-less : tie.Need-loop-less Inv-loop μ-loop
+loop-less c = omega arith
+
+loop-again : tie.Need-loop-again Inv-loop μ-loop
+loop-again c = (omega arith, simp length-set (omega arith))
+
+returns : tie.Need-returns Inv-loop μ-loop
+returns c = search needs
+
+pub readings-spec : {M : Type 1} → statement M
+readings-spec =
+    tie.close
+    (tie.spec
+    Inv-loop
+    μ-loop
+    loop-holds
+    mul-reading
+    add-reading
+    reading-requires
+    mul-list
+    array-write-list
+    add-i
+    loop-less
+    loop-again
+    returns)

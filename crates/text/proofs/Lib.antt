@@ -1,0 +1,4 @@
+pub mod Fills
+pub mod Widths
+pub mod Numerals
+pub mod Puts
