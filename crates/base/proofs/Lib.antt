@@ -5,3 +5,5 @@ pub mod Parts
 pub mod Bounds
 pub mod Order
 pub mod Fills
+pub mod Words
+pub mod Runs

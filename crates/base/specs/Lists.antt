@@ -1,7 +1,7 @@
 -- Words for lists: sums of sizes, a list cut into groups, one list laid over another, a part of a list.
 use Prim.Native.Nat.{ℕ, _+_}
 use mathlib.Core.List.{List, [], _∷_, _++_}
-use lib.ListN.{length, take, drop}
+use lib.ListN.{length, take, drop, replicate}
 
 -- the sum of these sizes
 unfoldable pub total : List ℕ → ℕ
@@ -26,3 +26,7 @@ module _ {A : Type 0} where
   unfoldable pub within : ℕ → ℕ → (List A → List A) → List A → List A
   unfolding part
   within a k f s = take a s ++ (f (part a k s) ++ drop k (drop a s))
+
+  -- the list in k words of w elements each
+  abbrev pub words : ℕ → ℕ → List A → List (List A)
+  words w k xs = cut (replicate k w) xs

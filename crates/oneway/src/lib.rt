@@ -34,7 +34,8 @@ pub struct OneWayAnovaResult {
     pub grand_mean: f64,
 }
 
-fn refused(refusal: Refusal) -> OneWayAnovaResult
+// The answer that carries a refusal alone.
+pub fn refused(refusal: Refusal) -> OneWayAnovaResult
     ensures { λ r. ⌜ r ≡ refusedResult refusal ⌝ }
 {
     OneWayAnovaResult {

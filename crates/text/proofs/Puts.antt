@@ -1,12 +1,12 @@
 -- `put`: the two ways in which src does not fit, and the loop that lays it over out, one turn and its end.
-use mathlib.Core.Path.{_≡_, _∙_}
+use mathlib.Core.Path.{_≡_, sym, ap, _∙_}
 use mathlib.Core.List.{List}
 use Prim.Native.Nat.{ℕ, _+_, _-_, _<_, _≤_}
 use native.Mathlib.Numerals.{add-one}
 use native.Mathlib.Omega.{arith}
 use borrow.Author.Tests.{le-leb, lt-leb}
 use lib.ListN.{length, set, getD}
-use lib.Seq.{paste, paste-suc, take-all}
+use lib.Seq.{paste, paste-suc, take-all, sets, sets-eq}
 use Rattle.text.specs.Put.{laid, putOf}
 
 module _ (start : List ℕ) (at : ℕ) (src : List ℕ) where
@@ -29,3 +29,15 @@ module _ (start : List ℕ) (at : ℕ) (src : List ℕ) where
         let k : i ≡ length src = omega arith in
         let l : out ≡ laid start at src = e ∙ rw (take-all i src high, k) in
         rw (le-leb (at + length src) (length start) fits, k, l)
+
+-- what a caller knows of `put` where src fits
+module _ (out : List ℕ) (at : ℕ) (src : List ℕ) (fits : at + length src ≤ length out) {out' : List ℕ} {r : ℕ} (e : (out', r) ≡ putOf out at src) where
+  there : _≡_ {A = List ℕ × ℕ} (out', r) (laid out at src, at + length src)
+  unfolding putOf
+  there = rw (le-leb (at + length src) (length out) fits) at e
+
+  pub put-lays : out' ≡ sets out at src
+  put-lays = ap (λ (p : List ℕ × ℕ). p .0) there ∙ sym (sets-eq src out at fits)
+
+  pub put-place : r ≡ at + length src
+  put-place = ap (λ (p : List ℕ × ℕ). p .1) there

@@ -1,0 +1,68 @@
+-- What `fisherline` prints of a set: its text, and the text in lent memory.
+use Prim.Native.Nat.{ℕ}
+use mathlib.Core.Bool.{cond}
+use mathlib.Core.List.{List, [], _∷_, _++_}
+use lib.Dec.{ltb, eqb}
+use lib.ListN.{length}
+use Rattle.base.specs.declared.Refusal.{Refusal}
+use Rattle.base.specs.Refusals.{refuse}
+use Rattle.oneway.specs.declared.AnovaKind.the-variants.{Fisher}
+use Rattle.oneway.specs.declared.OneWayAnovaResult.{OneWayAnovaResult}
+use Rattle.set.specs.Sets.{setAnova}
+use Rattle.fisherline.specs.Rows.{countsLine, floatsLine, puts}
+
+-- the lines' names in ASCII: `refused`, `fisher`, `ss`, `df`, `ms`, `f`
+abbrev pub refusedName : List ℕ
+refusedName = 114 ∷ 101 ∷ 102 ∷ 117 ∷ 115 ∷ 101 ∷ 100 ∷ []
+
+abbrev pub fisherName : List ℕ
+fisherName = 102 ∷ 105 ∷ 115 ∷ 104 ∷ 101 ∷ 114 ∷ []
+
+abbrev pub ssName : List ℕ
+ssName = 115 ∷ 115 ∷ []
+
+abbrev pub dfName : List ℕ
+dfName = 100 ∷ 102 ∷ []
+
+abbrev pub msName : List ℕ
+msName = 109 ∷ 115 ∷ []
+
+abbrev pub fName : List ℕ
+fName = 102 ∷ []
+
+-- a refusal: its number and its details
+abbrev pub refusedText : Refusal → List ℕ
+refusedText r = countsLine refusedName (r .number ∷ r .first ∷ r .second ∷ [])
+
+-- groups and readings
+abbrev pub groupsLine : OneWayAnovaResult → List ℕ
+groupsLine a = countsLine fisherName (a .«n_groups» ∷ a .«n_total» ∷ [])
+
+-- sums of squares between, within and in all
+abbrev pub ssLine : OneWayAnovaResult → List ℕ
+ssLine a = floatsLine ssName (a .«ss_between» ∷ a .«ss_within» ∷ a .«ss_total» ∷ [])
+
+-- degrees of freedom between and within
+abbrev pub dfLine : OneWayAnovaResult → List ℕ
+dfLine a = floatsLine dfName (a .«df_between» ∷ a .«df_within» ∷ [])
+
+-- mean squares between and within
+abbrev pub msLine : OneWayAnovaResult → List ℕ
+msLine a = floatsLine msName (a .«ms_between» ∷ a .«ms_within» ∷ [])
+
+abbrev pub fLine : OneWayAnovaResult → List ℕ
+fLine a = floatsLine fName (a .statistic ∷ [])
+
+abbrev pub fisherText : OneWayAnovaResult → List ℕ
+fisherText a = (((groupsLine a ++ ssLine a) ++ dfLine a) ++ msLine a) ++ fLine a
+
+abbrev pub resultText : OneWayAnovaResult → List ℕ
+resultText a = cond (eqb (a .refusal .number) 0) (fisherText a) (refusedText (a .refusal))
+
+-- more bytes than the longest set has are refused unread
+unfoldable pub textOf : List ℕ → List ℕ
+textOf set = cond (ltb 4130 (length set)) (refusedText (refuse 10 4130 4131)) (resultText (setAnova Fisher set))
+
+-- the text at the front of out, and its length; nothing where out is too short for every answer
+unfoldable pub answerOf : List ℕ → List ℕ → List ℕ × ℕ
+answerOf set out = cond (ltb (length out) 256) (out, 0) (puts out 0 (textOf set))

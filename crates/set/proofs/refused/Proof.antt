@@ -1,0 +1,14 @@
+-- `set::refused` meets its contract.
+use Prim.Native.Nat.{_-_}
+use mathlib.Core.Path.{refl}
+use Rattle.oneway.specs.Results.{noSizes}
+use Rattle.set.specs.Sets.{noReadings}
+use Rattle.set.proofs.refused.Statement.{statement}
+use Rattle.set.proofs.refused.Tie as tie
+
+returns : tie.Need-returns
+unfolding noSizes noReadings
+returns c = refl
+
+pub refused-spec : {M : Type 1} → statement M
+refused-spec = tie.close (tie.spec returns)
