@@ -1,6 +1,7 @@
 -- Laws of a walk over the groups: `at` is where group g begins, and the part that the code takes of the readings is the group.
 use mathlib.Core.Path.{_≡_, refl, sym, ap, _∙_}
 use mathlib.Core.List.{List, [], _∷_, map}
+use mathlib.Core.Bool.{false}
 use Prim.Native.Nat.{ℕ, _+_, _-_, _<_, _≤_}
 use native.Mathlib.Nat.{zero-add, add-sub-cancel-left}
 use native.Mathlib.Numerals.{add-one}
@@ -14,10 +15,16 @@ use Rattle.base.specs.Refusals.{none, _orElse_}
 use Rattle.base.proofs.Order.{first-wins, second-asked, both-passed}
 use Rattle.base.proofs.Cuts.{cut-turn, cut-done, cut-at, length-cut, total-turn}
 use Rattle.base.proofs.Parts.{length-part}
+use Rattle.stats.specs.Sums.{hasNan}
+use Rattle.stats.proofs.Adding.{no-nan-within}
 use Rattle.groups.specs.declared.Row.{Row}
 use Rattle.groups.specs.Checks.{groupFault, groupsRefusal, Passed}
 use Rattle.groups.specs.Rows.{rowOf, rowAnswer, rowsOf, emptyRows}
 use Rattle.groups.proofs.Doors.{two-there, row-there}
+
+-- f of the row of each group from g on, put in the places of `out` from g on
+abbrev pub laying : {B : Type 0} → List Float → List ℕ → ℕ → ℕ → (Row → B) → List B → List B
+laying xs ns g at f out = sets out g (map (λ (x : List Float). f (rowOf x)) (cut (drop g ns) (drop at xs)))
 
 module _ (xs : List Float) (ns : List ℕ) (g at : ℕ) where
   -- the readings of group g, as the code takes them
@@ -27,6 +34,10 @@ module _ (xs : List Float) (ns : List ℕ) (g at : ℕ) where
   -- the group ends within the readings
   pub fits-here : g < length ns → at + total (drop g ns) ≡ length xs → at + getD ns g 0 ≤ length xs
   fits-here h e = omega (arith, total-turn ns g h)
+
+  -- where no reading is a NaN, none of the group is
+  pub no-nan-here : hasNan xs ≡ false → hasNan here ≡ false
+  no-nan-here e = no-nan-within at (at + getD ns g 0 - at) xs e
 
   -- the check of the groups from g on: here, further on, or nowhere
   abbrev pub faults : Refusal
@@ -61,17 +72,16 @@ module _ (xs : List Float) (ns : List ℕ) (g at : ℕ) where
         let all = length-part at (getD ns g 0) xs (fits-here h room) in
         row-there here (omega arith) (omega (arith, fits-here h room))
 
-    -- the rows from g on, put in their places
-    pub row-turn : (rows : List Row) (r : Row) → r ≡ rowAnswer here
-        → sets (set rows g r) (g + 1) (map rowOf (cut (drop (g + 1) ns) (drop (at + getD ns g 0) xs))) ≡ sets rows g (map rowOf (cut (drop g ns) (drop at xs)))
-    row-turn rows r e = rw (cut-turn ns xs at g h, e, row-here, add-one)
+    -- one group more is put in its place
+    pub row-turn : {B : Type 0} (f : Row → B) (out : List B) (r : Row) → r ≡ rowAnswer here
+        → laying xs ns (g + 1) (at + getD ns g 0) f (set out g (f r)) ≡ laying xs ns g at f out
+    row-turn f out r e = rw (cut-turn ns xs at g h, e, row-here, add-one)
 
-  pub rows-done : (rows : List Row) → length ns ≤ g → sets rows g (map rowOf (cut (drop g ns) (drop at xs))) ≡ rows
-  rows-done rows h = rw (cut-done ns xs at g h)
+  pub rows-done : {B : Type 0} (f : Row → B) (out : List B) → length ns ≤ g → laying xs ns g at f out ≡ out
+  rows-done f out h = rw (cut-done ns xs at g h)
 
-pub rows-laid : (xs : List Float) (ns : List ℕ) → length ns ≤ 16 → sets emptyRows 0 (map rowOf (cut ns xs)) ≡ rowsOf (cut ns xs)
-unfolding emptyRows rowsOf
-rows-laid xs ns h = sets-eq (map rowOf (cut ns xs)) _ 0 (rw (zero-add, length-map, length-cut) h) ∙ rw zero-add
+pub rows-laid : {B : Type 0} (f : Row → B) (xs : List Float) (ns : List ℕ) (out : List B) → length ns ≤ length out → laying xs ns 0 0 f out ≡ over (map (λ (x : List Float). f (rowOf x)) (cut ns xs)) out
+rows-laid f xs ns out h = sets-eq (map (λ (x : List Float). f (rowOf x)) (cut ns xs)) out 0 (rw (zero-add, length-map, length-cut) h) ∙ rw zero-add
 
 -- the view's part is the group
 pub view-here : (xs : List Float) (ns : List ℕ) (g : ℕ) → g < length ns → here xs ns g (total (take g ns)) ≡ getD (cut ns xs) g []

@@ -1,9 +1,11 @@
 // One-way data: the checks at the door, the view of one group, and the row that each group is worked into.
 use base::Refusal;
 ghost use mathlib.Core.Path.{_≡_};
+ghost use mathlib.Core.Bool.{false};
 ghost use Prim.Native.Nat.{ℕ, _≤_};
 ghost use lib.ListN.{length};
 ghost use Rattle.base.specs.Lists.{total, cut};
+ghost use Rattle.stats.specs.Sums.{hasNan};
 ghost use Rattle.groups.specs.Checks.{Sized, Passed, sizesRefusal, groupFault, groupsRefusal, oneWayRefusal, viewRefusal, viewOf};
 ghost use Rattle.groups.specs.Rows.{emptyRow, rowAnswer, rowsOf, refusedStats, validateAnovaGroups};
 
@@ -82,12 +84,16 @@ fn sizes_refusal(readings: &[f64], sizes: &[u32]) -> Refusal
     Refusal::none()
 }
 
-// Group number k, counted from 1: fewer than two readings, or a NaN.
-fn group_fault(group: &[f64], k: u64) -> Refusal
+// Group number k, counted from 1: fewer than two readings, or a NaN, for which it looks only where `nans` says that there may be one.
+fn group_fault(group: &[f64], k: u64, nans: bool) -> Refusal
+    requires { ⌜ (nans ≡ false → hasNan (now group) ≡ false) ⌝ }
     ensures { λ r. ⌜ r ≡ groupFault k (now (group .entry)) ⌝ }
 {
     if group.len() < 2 {
         return Refusal::new(2, 2, group.len() as u64);
+    }
+    if !nans {
+        return Refusal::none();
     }
     if stats::has_nan(group) {
         return Refusal::new(4, k, 0);
@@ -95,16 +101,17 @@ fn group_fault(group: &[f64], k: u64) -> Refusal
     Refusal::none()
 }
 
-// The first group that has a fault.
+// The first group that has a fault. Where no reading is a NaN, the groups are not searched for one.
 fn groups_refusal(readings: &[f64], sizes: &[u32]) -> Refusal
     requires { ⌜ Sized (now readings) (now sizes) ⌝ }
     ensures { λ r. ⌜ r ≡ groupsRefusal 1 (cut (now (sizes .entry)) (now (readings .entry))) ⌝ }
 {
+    let nans = stats::has_nan(readings);
     let mut at = 0;
     let mut g = 0;
     while g < sizes.len() {
         let end = at + sizes[g] as usize;
-        let r = group_fault(&readings[at..end], (g + 1) as u64);
+        let r = group_fault(&readings[at..end], (g + 1) as u64, nans);
         if r.number != 0 {
             return r;
         }
@@ -115,7 +122,7 @@ fn groups_refusal(readings: &[f64], sizes: &[u32]) -> Refusal
 }
 
 // The one-way checks, in document 01's order.
-fn one_way_refusal(readings: &[f64], sizes: &[u32]) -> Refusal
+pub fn one_way_refusal(readings: &[f64], sizes: &[u32]) -> Refusal
     ensures { λ r. ⌜ r ≡ oneWayRefusal (now (readings .entry)) (now (sizes .entry)) ⌝ }
 {
     let r = sizes_refusal(readings, sizes);

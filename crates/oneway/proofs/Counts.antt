@@ -6,12 +6,11 @@ use native.Mathlib.Numerals.{add-one}
 use native.Mathlib.Omega.{arith}
 use lib.Ieee.{nan}
 use lib.ListN.{getD, length, take, drop, length-map, drop-of-length-le, List·getD-map}
-use lib.Seq.{drop-cons, getD-take, length-take-le, take-at}
+use lib.Seq.{drop-cons, getD-take, length-take-le}
 use Rattle.base.specs.Lists.{total}
 use Rattle.base.proofs.Fills.{past-taken}
 use Rattle.groups.specs.declared.Row.{Row}
 use Rattle.oneway.specs.Results.{sizeOf}
-use Rattle.oneway.specs.Welch.{weighedRows, allWeighed}
 
 -- what a read past an array's end would give: no proof turns on it
 abbrev pub unread : Row
@@ -32,7 +31,3 @@ module _ (k : ℕ) (rows : List Row) where
   size-done g h =
       let behind : length sizes ≤ g = rw length-map (past-taken k rows g h) in
       rw (drop-of-length-le sizes behind)
-
-  -- the rows that were weighed are the first k places of what holds them
-  pub weighed-taken : k ≤ length rows → take k (weighedRows (take k rows)) ≡ allWeighed (take k rows)
-  weighed-taken l = take-at (allWeighed (take k rows)) _ k (rw (length-map, length-take-le k rows l))

@@ -1,2 +1,3 @@
+pub mod Columns
 pub mod Counts
-pub mod Entered
+pub mod Summaries

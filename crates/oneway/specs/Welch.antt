@@ -3,8 +3,7 @@ use Prim.Native.Nat.{ℕ, _-_, _*_}
 use mathlib.Core.Bool.{false, cond}
 use mathlib.Core.List.{List, map}
 use lib.Ieee.{Float, lt}
-use lib.ListN.{length, replicate}
-use Rattle.base.specs.Limits.{mostGroups}
+use lib.ListN.{length}
 use Rattle.base.specs.Lists.{over}
 use Rattle.base.specs.Refusals.{none}
 use Rattle.float.specs.Words.{_⊕_, _⊖_, _⊗_, _⊘_, count, square, plusZero, one, two, three, largest, tinier}
@@ -14,7 +13,7 @@ use Rattle.oneway.specs.declared.OneWayAnovaResult.{OneWayAnovaResult}
 use Rattle.oneway.specs.declared.welch.Weighed.{Weighed}
 use Rattle.oneway.specs.declared.welch.Share.{Share}
 use Rattle.oneway.specs.declared.welch.Share.the-variants.{Weight, Mean, Spread, Rest}
-use Rattle.oneway.specs.Results.{nTotal, groupSizes, groupMeans}
+use Rattle.oneway.specs.Results.{nTotal, groupSizes, groupMeans, noMeans}
 
 -- a group's variance, from its row
 abbrev pub rowVariance : Row → Float
@@ -37,11 +36,12 @@ shareOf (Rest weights) w = square (one ⊖ w .weight ⊘ weights) ⊘ count (w .
 abbrev pub allWeighed : List Row → List Weighed
 allWeighed rs = map (weigh (length rs)) rs
 
-unfoldable pub noneWeighed : List Weighed
-noneWeighed = replicate mostGroups (record { size = 0; mean = plusZero; weight = plusZero })
+-- the weights alone, and zeros behind them
+abbrev pub weights : List Row → List Float
+weights rs = over (map (weightOf (length rs)) rs) noMeans
 
-abbrev pub weighedRows : List Row → List Weighed
-weighedRows rs = over (allWeighed rs) noneWeighed
+abbrev pub weighed : ℕ → Float → Float → Weighed
+weighed n m w = record { size = n; mean = m; weight = w }
 
 abbrev pub sumWeights : List Row → Float
 sumWeights rs = sumBy (shareOf Weight) (allWeighed rs)

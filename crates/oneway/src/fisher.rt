@@ -1,13 +1,13 @@
 // Fisher's analysis, which takes the groups' variances for equal.
 use crate::OneWayAnovaResult;
-use crate::summary;
+use crate::summary::Summary;
 use base::Refusal;
 use groups::Row;
 ghost use mathlib.Core.Path.{_≡_};
-ghost use Prim.Native.Nat.{_≤_};
-ghost use lib.ListN.{take};
+ghost use mathlib.Core.List.{List};
+ghost use Rattle.groups.specs.declared.Row.{Row};
 ghost use Rattle.stats.specs.Sums.{sumBy};
-ghost use Rattle.oneway.specs.Results.{Small};
+ghost use Rattle.oneway.specs.Results.{Long, Lined, linesOf, row, summaryOf};
 ghost use Rattle.oneway.specs.Fisher.{squaresOf, fisherAnova};
 
 // What is added up over the rows.
@@ -28,34 +28,47 @@ fn term(row: Row, what: Squares) -> f64
     }
 }
 
-fn sum_rows(rows: [Row; 16], k: usize, what: Squares) -> f64
-    requires { ⌜ k ≤ 16 ⌝ }
-    ensures { λ r. ⌜ r ≡ sumBy (squaresOf what) (take k rows) ⌝ }
+fn sum_rows(sizes: &[u32; 16], means: &[f64; 16], devs: &[f64; 16], k: usize, what: Squares) -> f64
+    requires { ⌜ Long k (now sizes) (now means) (now devs) ⌝ }
+    ensures { λ r. ⌜ r ≡ sumBy (squaresOf what) (linesOf row k (now (sizes .entry)) (now (means .entry)) (now (devs .entry))) ⌝ }
 {
     let mut t = -0.0;
     let mut g = 0;
     while g < k {
-        t = t + term(rows[g], what);
+        let row = Row {
+            size: sizes[g],
+            mean: means[g],
+            sq_dev: devs[g],
+        };
+        t = t + term(row, what);
         g += 1;
     }
     float::canon(t)
 }
 
-pub fn fisher_anova(rows: [Row; 16], k: usize, readings: &[f64]) -> OneWayAnovaResult
-    requires { ⌜ Small k rows ⌝ }
-    ensures { λ r. ⌜ r ≡ fisherAnova (take k rows) (now (readings .entry)) ⌝ }
+// Of the rows that s is the summary of, and of readings.
+pub fn fisher_anova(s: Summary, readings: &[f64]) -> OneWayAnovaResult
+    requires { ⌜ Lined s ⌝ }
+    ensures { λ r. ⌜ ((rs : List Row) → s ≡ summaryOf rs → r ≡ fisherAnova rs (now (readings .entry))) ⌝ }
 {
-    let s = summary::summarize(rows, k);
+    let k = s.n_groups;
     let n_total = s.n_total;
+    let group_sizes = s.group_sizes;
+    let group_means = s.group_means;
+    let sq_devs = s.sq_devs;
     let grand_mean = float::canon(stats::sum(readings) / (n_total as f64));
-    let ss_between = sum_rows(rows, k, Squares::Between(grand_mean));
-    let ss_within = sum_rows(rows, k, Squares::Within);
+    let ss_between = sum_rows(
+        &group_sizes,
+        &group_means,
+        &sq_devs,
+        k,
+        Squares::Between(grand_mean),
+    );
+    let ss_within = sum_rows(&group_sizes, &group_means, &sq_devs, k, Squares::Within);
     let df_between = base::minus(k as u32, 1) as f64;
     let df_within = base::minus(n_total, k as u32) as f64;
     let ms_between = float::canon(ss_between / df_between);
     let ms_within = float::canon(ss_within / df_within);
-    let group_sizes = s.group_sizes;
-    let group_means = s.group_means;
     OneWayAnovaResult {
         refusal: Refusal::none(),
         statistic: float::canon(ms_between / ms_within),

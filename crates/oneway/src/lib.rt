@@ -63,15 +63,13 @@ pub fn refused(refusal: Refusal) -> OneWayAnovaResult
 pub fn one_way_anova(readings: &[f64], sizes: &[u32], kind: AnovaKind) -> OneWayAnovaResult
     ensures { λ r. ⌜ r ≡ oneWayAnova kind (now (readings .entry)) (now (sizes .entry)) ⌝ }
 {
-    let stats = groups::validate_anova_groups(readings, sizes);
-    let refusal = stats.refusal;
+    let refusal = groups::one_way_refusal(readings, sizes);
     if refusal.number != 0 {
         return refused(refusal);
     }
-    let rows = stats.rows;
-    let k = stats.n_groups;
+    let s = summary::summarize(readings, sizes);
     match kind {
-        AnovaKind::Fisher => fisher::fisher_anova(rows, k, readings),
-        AnovaKind::Welch => welch::welch_anova(rows, k),
+        AnovaKind::Fisher => fisher::fisher_anova(s, readings),
+        AnovaKind::Welch => welch::welch_anova(s),
     }
 }

@@ -1,14 +1,14 @@
 // Welch's analysis, which lets the groups' variances differ: each group has a weight.
 use crate::OneWayAnovaResult;
-use crate::summary;
+use crate::summary::Summary;
 use base::Refusal;
 use groups::Row;
 ghost use mathlib.Core.Path.{_≡_};
-ghost use Prim.Native.Nat.{_≤_};
-ghost use lib.ListN.{take};
+ghost use mathlib.Core.List.{List};
+ghost use Rattle.groups.specs.declared.Row.{Row};
 ghost use Rattle.stats.specs.Sums.{sumBy};
-ghost use Rattle.oneway.specs.Results.{Small};
-ghost use Rattle.oneway.specs.Welch.{weigh, weighedRows, shareOf, welchAnova};
+ghost use Rattle.oneway.specs.Results.{Long, Lined, linesOf, row, summaryOf};
+ghost use Rattle.oneway.specs.Welch.{weigh, weighed, weights, shareOf, welchAnova};
 
 // A row with its weight in place of its squared distances.
 pub struct Weighed {
@@ -44,19 +44,20 @@ fn weigh(row: Row, k: u32) -> Weighed
     }
 }
 
-fn weighed_rows(rows: [Row; 16], k: usize) -> [Weighed; 16]
-    requires { ⌜ k ≤ 16 ⌝ }
-    ensures { λ r. ⌜ r ≡ weighedRows (take k rows) ⌝ }
+fn weights(sizes: &[u32; 16], means: &[f64; 16], devs: &[f64; 16], k: usize) -> [f64; 16]
+    requires { ⌜ Long k (now sizes) (now means) (now devs) ⌝ }
+    ensures { λ r. ⌜ r ≡ weights (linesOf row k (now (sizes .entry)) (now (means .entry)) (now (devs .entry))) ⌝ }
 {
-    let zero = Weighed {
-        size: 0,
-        mean: 0.0,
-        weight: 0.0,
-    };
-    let mut out = [zero; 16];
+    let mut out = [0.0; 16];
     let mut g = 0;
     while g < k {
-        out[g] = weigh(rows[g], k as u32);
+        let row = Row {
+            size: sizes[g],
+            mean: means[g],
+            sq_dev: devs[g],
+        };
+        let w = weigh(row, k as u32);
+        out[g] = w.weight;
         g += 1;
     }
     out
@@ -79,37 +80,58 @@ fn term(row: Weighed, what: Share) -> f64
     }
 }
 
-fn sum_weighed(rows: [Weighed; 16], k: usize, what: Share) -> f64
-    requires { ⌜ k ≤ 16 ⌝ }
-    ensures { λ r. ⌜ r ≡ sumBy (shareOf what) (take k rows) ⌝ }
+fn sum_weighed(
+    sizes: &[u32; 16],
+    means: &[f64; 16],
+    weights: &[f64; 16],
+    k: usize,
+    what: Share,
+) -> f64
+    requires { ⌜ Long k (now sizes) (now means) (now weights) ⌝ }
+    ensures { λ r. ⌜ r ≡ sumBy (shareOf what) (linesOf weighed k (now (sizes .entry)) (now (means .entry)) (now (weights .entry))) ⌝ }
 {
     let mut t = -0.0;
     let mut g = 0;
     while g < k {
-        t = t + term(rows[g], what);
+        let row = Weighed {
+            size: sizes[g],
+            mean: means[g],
+            weight: weights[g],
+        };
+        t = t + term(row, what);
         g += 1;
     }
     float::canon(t)
 }
 
-pub fn welch_anova(rows: [Row; 16], k: usize) -> OneWayAnovaResult
-    requires { ⌜ Small k rows ⌝ }
-    ensures { λ r. ⌜ r ≡ welchAnova (take k rows) ⌝ }
+// Of the rows that s is the summary of.
+pub fn welch_anova(s: Summary) -> OneWayAnovaResult
+    requires { ⌜ Lined s ⌝ }
+    ensures { λ r. ⌜ ((rs : List Row) → s ≡ summaryOf rs → r ≡ welchAnova rs) ⌝ }
 {
-    let s = summary::summarize(rows, k);
+    let k = s.n_groups;
     let n = k as u32;
-    let weighed = weighed_rows(rows, k);
-    let sum_weights = sum_weighed(weighed, k, Share::Weight);
-    let weighted_grand_mean = sum_weighed(weighed, k, Share::Mean) / sum_weights;
+    let group_sizes = s.group_sizes;
+    let group_means = s.group_means;
+    let sq_devs = s.sq_devs;
+    let w = weights(&group_sizes, &group_means, &sq_devs, k);
+    let sum_weights = sum_weighed(&group_sizes, &group_means, &w, k, Share::Weight);
+    let weighted_grand_mean = sum_weighed(&group_sizes, &group_means, &w, k, Share::Mean)
+        / sum_weights;
     let df_between = base::minus(n, 1) as f64;
-    let f_numerator = sum_weighed(weighed, k, Share::Spread(weighted_grand_mean)) / df_between;
-    let adjustment = sum_weighed(weighed, k, Share::Rest(sum_weights));
+    let f_numerator = sum_weighed(
+        &group_sizes,
+        &group_means,
+        &w,
+        k,
+        Share::Spread(weighted_grand_mean),
+    )
+        / df_between;
+    let adjustment = sum_weighed(&group_sizes, &group_means, &w, k, Share::Rest(sum_weights));
     let k_squared_less_one = base::minus(n * n, 1) as f64;
     let lambda = adjustment * 3.0 / k_squared_less_one;
     let f_stat = f_numerator / (1.0 + 2.0 * lambda * (base::minus(n, 2) as f64) / 3.0);
     let df_within = k_squared_less_one / (3.0 * adjustment);
-    let group_sizes = s.group_sizes;
-    let group_means = s.group_means;
     OneWayAnovaResult {
         refusal: Refusal::none(),
         statistic: float::canon(f_stat),

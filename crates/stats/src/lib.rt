@@ -38,19 +38,20 @@ pub fn sq_dev(readings: &[f64], mean: f64) -> f64
     float::canon(t)
 }
 
-// Whether one of the readings is a NaN.
+// Whether one of the readings is a NaN. All of them are looked at, so that the compiler can take several at a time.
 pub fn has_nan(readings: &[f64]) -> bool
     ensures { λ r. ⌜ r ≡ hasNan (now (readings .entry)) ⌝ }
 {
+    let mut found = false;
     let mut i = 0;
     while i < readings.len() {
         let x = readings[i];
         if x != x {
-            return true;
+            found = true;
         }
         i += 1;
     }
-    false
+    found
 }
 
 // Which refusal the mean of n readings meets.

@@ -2,7 +2,7 @@
 use Prim.Native.Nat.{_-_}
 use mathlib.Core.Path.{sym, _∙_}
 use borrow.Author.Needs.{needs}
-use borrow.Author.Tests.{lt-ltb, le-ltb}
+use borrow.Author.Tests.{lt-ltb, le-ltb, not-true}
 use Rattle.groups.specs.Checks.{groupFault}
 use Rattle.groups.proofs.group_fault.Statement.{statement}
 use Rattle.groups.proofs.group_fault.Tie as tie
@@ -14,22 +14,31 @@ returns : tie.Need-returns
 unfolding groupFault
 returns c = rw (c .new .ensures, lt-ltb _ 2 (c .before .if1 .taken))
 
+none-requires : tie.Need-none-requires
+none-requires c κs = search needs
+
+returns-2 : tie.Need-returns-2
+unfolding groupFault
+returns-2 c =
+    let e = c .before .before in
+    rw (c .none .ensures, le-ltb _ 2 (e .if1 .left), e .before .before .pre (not-true _ (c .before .if2 .taken)))
+
 has-nan-requires : tie.Need-has-nan-requires
 has-nan-requires c κs = search needs
 
 new-requires-2 : tie.Need-new-requires-2
 new-requires-2 c κs = search needs
 
-returns-2 : tie.Need-returns-2
-unfolding groupFault
-returns-2 c = rw (c .new2 .ensures, le-ltb _ 2 (c .before .before .before .if1 .left), sym (c .before .before .has-nan .ensures) ∙ c .before .if2 .taken)
-
-none-requires : tie.Need-none-requires
-none-requires c κs = search needs
-
 returns-3 : tie.Need-returns-3
 unfolding groupFault
-returns-3 c = rw (c .none .ensures, le-ltb _ 2 (c .before .before .before .if1 .left), sym (c .before .before .has-nan .ensures) ∙ c .before .if2 .left)
+returns-3 c = rw (c .new2 .ensures, le-ltb _ 2 (c .before .before .before .before .if1 .left), sym (c .before .before .has-nan .ensures) ∙ c .before .if3 .taken)
+
+none-requires-2 : tie.Need-none-requires-2
+none-requires-2 c κs = search needs
+
+returns-4 : tie.Need-returns-4
+unfolding groupFault
+returns-4 c = rw (c .none2 .ensures, le-ltb _ 2 (c .before .before .before .before .if1 .left), sym (c .before .before .has-nan .ensures) ∙ c .before .if3 .left)
 
 pub group-fault-spec : {M : Type 1} → statement M
 group-fault-spec =
@@ -37,8 +46,10 @@ group-fault-spec =
     (tie.spec
     new-requires
     returns
+    none-requires
+    returns-2
     has-nan-requires
     new-requires-2
-    returns-2
-    none-requires
-    returns-3)
+    returns-3
+    none-requires-2
+    returns-4)

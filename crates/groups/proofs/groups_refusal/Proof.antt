@@ -1,6 +1,6 @@
 -- `groups::groups_refusal` meets its contract.
 use Prim.Native.Nat.{_≤_, _-_, _+_}
-use mathlib.Core.Path.{_≡_, _∙_}
+use mathlib.Core.Path.{_≡_, sym, _∙_}
 use native.Mathlib.Omega.{arith}
 use borrow.Author.Needs.{needs}
 use lib.ListN.{length}
@@ -8,22 +8,25 @@ use lib.ListN.{drop, getD}
 use Rattle.base.specs.Lists.{total, cut}
 use Rattle.base.proofs.Cuts.{total-turn}
 use Rattle.groups.specs.Checks.{groupsRefusal}
-use Rattle.groups.proofs.Walk.{fits-here, faults, fault-here, fault-further, fault-nowhere}
+use Rattle.groups.proofs.Walk.{fits-here, no-nan-here, faults, fault-here, fault-further, fault-nowhere}
 use Rattle.groups.proofs.groups_refusal.Statement.{statement}
 use Rattle.groups.proofs.groups_refusal.Tie as tie
 
 abbrev Inv-loop : tie.InvT-loop
-Inv-loop readings sizes at₀ g₀ at g = (g ≤ length sizes) × (at + total (drop g sizes) ≡ length readings) × (faults readings sizes g at ≡ groupsRefusal 1 (cut sizes readings))
+Inv-loop readings sizes nans at₀ g₀ at g = (g ≤ length sizes) × (at + total (drop g sizes) ≡ length readings) × (faults readings sizes g at ≡ groupsRefusal 1 (cut sizes readings))
 
 abbrev μ-loop : tie.MeasureT-loop
-μ-loop readings sizes at₀ g₀ at g = length sizes - g
+μ-loop readings sizes nans at₀ g₀ at g = length sizes - g
 
 -- the group ends within the readings
-ends : (c : tie.In-loop Inv-loop μ-loop) → c .before .loop .at + getD (c .before .before .before .before .args .sizes .now) (c .before .loop .g) 0 ≤ length (c .before .before .before .before .args .readings .now)
+ends : (c : tie.In-loop Inv-loop μ-loop) → c .before .loop .at + getD (c .before .before .before .before .before .args .sizes .now) (c .before .loop .g) 0 ≤ length (c .before .before .before .before .before .args .readings .now)
 ends c =
     let at = c .before in
-    let a = at .before .before .before .args in
+    let a = at .before .before .before .before .args in
     fits-here (a .readings .now) (a .sizes .now) (at .loop .g) (at .loop .at) (c .loop-test .taken) (at .loop .inv .1)
+
+has-nan-requires : tie.Need-has-nan-requires Inv-loop μ-loop
+has-nan-requires c κs = search needs
 
 loop-holds : tie.Need-loop-holds Inv-loop μ-loop
 loop-holds c = search needs
@@ -56,12 +59,15 @@ add-group-fault : tie.Need-add-group-fault Inv-loop μ-loop
 add-group-fault c = omega arith
 
 group-fault-requires : tie.Need-group-fault-requires Inv-loop μ-loop
-group-fault-requires c κs = search needs
+group-fault-requires c κs =
+    let at = c .before .before .before in
+    let a = at .before .before .before .before .args in
+    λ e. no-nan-here (a .readings .now) (a .sizes .now) (at .loop .g) (at .loop .at) (sym (at .before .has-nan .ensures) ∙ e)
 
 returns : tie.Need-returns Inv-loop μ-loop
 returns c =
     let at = c .before .before .before .before .before .before in
-    let a = at .before .before .before .args in
+    let a = at .before .before .before .before .args in
     let h = c .before .before .before .before .before .loop-test .taken in
     fault-here (a .readings .now) (a .sizes .now) (at .loop .g) (at .loop .at) h _ (c .before .before .group-fault .ensures) (c .if1 .taken) ∙ at .loop .inv .2
 
@@ -74,7 +80,7 @@ loop-less c = omega arith
 loop-again : tie.Need-loop-again Inv-loop μ-loop
 loop-again c =
     let at = c .before .before .before .before .before .before in
-    let a = at .before .before .before .args in
+    let a = at .before .before .before .before .args in
     let h = c .before .before .before .before .before .loop-test .taken in (
       omega arith,
       omega (arith, total-turn (a .sizes .now) (at .loop .g) h),
@@ -87,7 +93,7 @@ none-requires c κs = search needs
 returns-2 : tie.Need-returns-2 Inv-loop μ-loop
 returns-2 c =
     let at = c .before .before in
-    let a = at .before .before .before .args in
+    let a = at .before .before .before .before .args in
     c .none .ensures ∙ fault-nowhere (a .readings .now) (a .sizes .now) (at .loop .g) (at .loop .at) (c .before .loop-test .left) ∙ at .loop .inv .2
 
 pub groups-refusal-spec : {M : Type 1} → statement M
@@ -96,6 +102,7 @@ groups-refusal-spec =
     (tie.spec
     Inv-loop
     μ-loop
+    has-nan-requires
     loop-holds
     mul-end
     shared-slice-read-end

@@ -4,20 +4,22 @@ use mathlib.Core.Path.{_≡_, refl, sym, _∙_}
 use native.Mathlib.Omega.{arith}
 use borrow.Author.Needs.{needs}
 use lib.ListN.{length, length-set}
-use mathlib.Core.List.{map}
 use lib.ListN.{drop, getD}
-use lib.Seq.{sets}
 use Rattle.base.specs.Lists.{total, cut}
 use Rattle.base.proofs.Cuts.{total-turn}
-use Rattle.groups.specs.Rows.{rowOf, rowsOf, emptyRows}
-use Rattle.groups.proofs.Walk.{fits-here, faults, fine-further, row-turn, rows-done, rows-laid}
+use Rattle.groups.specs.declared.Row.{Row}
+use Rattle.groups.specs.Rows.{rowsOf, emptyRows}
+use Rattle.groups.proofs.Walk.{fits-here, faults, fine-further, laying, row-turn, rows-done, rows-laid}
 use Rattle.groups.proofs.rows_of.Statement.{statement}
 use Rattle.groups.proofs.rows_of.Tie as tie
+
+abbrev itself : Row → Row
+itself r = r
 
 abbrev Inv-loop : tie.InvT-loop
 Inv-loop readings sizes rows₀ at₀ g₀ rows at g =
     (g ≤ length sizes) × (at + total (drop g sizes) ≡ length readings) × (length rows ≡ 16) × (faults readings sizes g at .number ≡ 0)
-    × (sets rows g (map rowOf (cut (drop g sizes) (drop at readings))) ≡ rowsOf (cut sizes readings))
+    × (laying readings sizes g at itself rows ≡ rowsOf (cut sizes readings))
 
 abbrev μ-loop : tie.MeasureT-loop
 μ-loop readings sizes rows₀ at₀ g₀ rows at g = length sizes - g
@@ -33,11 +35,11 @@ empty-requires : tie.Need-empty-requires Inv-loop μ-loop
 empty-requires c κs = search needs
 
 loop-holds : tie.Need-loop-holds Inv-loop μ-loop
-unfolding emptyRows
+unfolding emptyRows rowsOf
 loop-holds c =
     let a = c .before .before .before .args in
     let p = c .before .before .before .pre in
-    (omega arith, omega arith, refl, p .fine, rw (c .empty .ensures) (rows-laid (a .readings .now) (a .sizes .now) (p .sizes .groups)))
+    (omega arith, omega arith, refl, p .fine, rw (c .empty .ensures) (rows-laid itself (a .readings .now) (a .sizes .now) emptyRows (p .sizes .groups)))
 
 mul-end : tie.Need-mul-end Inv-loop μ-loop
 mul-end c = omega arith
@@ -88,14 +90,14 @@ loop-again c =
       omega (arith, total-turn (a .sizes .now) (at .loop .g) h),
       simp length-set (omega arith),
       fine-further (a .readings .now) (a .sizes .now) (at .loop .g) (at .loop .at) h (at .loop .inv .1) (p .sizes .readings) (at .loop .inv .3),
-      row-turn (a .readings .now) (a .sizes .now) (at .loop .g) (at .loop .at) h (at .loop .inv .1) (p .sizes .readings) (at .loop .inv .3) (at .loop .rows) (c .of .result) (c .of .ensures) ∙ at .loop .inv .4,
+      row-turn (a .readings .now) (a .sizes .now) (at .loop .g) (at .loop .at) h (at .loop .inv .1) (p .sizes .readings) (at .loop .inv .3) itself (at .loop .rows) (c .of .result) (c .of .ensures) ∙ at .loop .inv .4,
     )
 
 returns : tie.Need-returns Inv-loop μ-loop
 returns c =
     let at = c .before in
     let a = at .before .before .before .before .args in
-    sym (rows-done (a .readings .now) (a .sizes .now) (at .loop .g) (at .loop .at) (at .loop .rows) (c .loop-test .left)) ∙ at .loop .inv .4
+    sym (rows-done (a .readings .now) (a .sizes .now) (at .loop .g) (at .loop .at) itself (at .loop .rows) (c .loop-test .left)) ∙ at .loop .inv .4
 
 pub rows-of-spec : {M : Type 1} → statement M
 rows-of-spec =

@@ -1,61 +1,67 @@
 -- `oneway::one_way_anova` meets its contract.
 use Prim.Native.Nat.{_-_}
 use borrow.Author.Needs.{needs}
-use Rattle.base.proofs.Order.{answers-refused}
+use Rattle.base.proofs.Order.{answers-refused, answers-numbers}
+use Rattle.groups.specs.Checks.{Passed}
+use Rattle.groups.proofs.Doors.{passed}
 use Rattle.oneway.specs.Anova.{anova, oneWayAnova}
-use Rattle.oneway.proofs.Entered.{which, small, answered}
+use Rattle.oneway.proofs.Summaries.{lined-groups}
 use Rattle.oneway.proofs.one_way_anova.Statement.{statement}
 use Rattle.oneway.proofs.one_way_anova.Tie as tie
 
-validate-anova-groups-requires : tie.Need-validate-anova-groups-requires
-validate-anova-groups-requires c κs = search needs
+one-way-refusal-requires : tie.Need-one-way-refusal-requires
+one-way-refusal-requires c κs = search needs
 
 refused-requires : tie.Need-refused-requires
 refused-requires c κs = search needs
 
 returns : tie.Need-returns
 unfolding oneWayAnova
-returns c =
-    let v = c .before .before .before .before .validate-anova-groups in
-    answers-refused _ _ _ (which _ _ (v .result) (v .ensures) (c .before .if1 .taken)) (c .before .if1 .taken) (c .refused .ensures)
+returns c = answers-refused _ _ _ (c .before .before .before .one-way-refusal .ensures) (c .before .if1 .taken) (c .refused .ensures)
+
+-- what the checks leave known
+known : (c : tie.Else1) → (let a = c .before .before .before .before .before .args in Passed (a .readings .now) (a .sizes .now))
+known c = passed _ _ (rw (c .before .before .one-way-refusal .ensures) at (c .if1 .left))
+
+summarize-requires : tie.Need-summarize-requires
+summarize-requires c κs = known c
 
 enum-told : tie.Need-enum-told
 enum-told c = search needs
 
 fisher-anova-requires : tie.Need-fisher-anova-requires
 fisher-anova-requires c κs =
-    let v = c .before .before .before .before .before .before .validate-anova-groups in
-    small _ _ (v .result) (v .ensures) (c .before .before .before .if1 .left)
+    let s = c .before .before in
+    lined-groups _ _ (known (s .before)) (s .summarize .result) (s .summarize .ensures)
 
 enum-told-2 : tie.Need-enum-told-2
 enum-told-2 c = search needs
 
 welch-anova-requires : tie.Need-welch-anova-requires
 welch-anova-requires c κs =
-    let v = c .before .before .before .before .before .before .validate-anova-groups in
-    small _ _ (v .result) (v .ensures) (c .before .before .before .if1 .left)
+    let s = c .before .before in
+    lined-groups _ _ (known (s .before)) (s .summarize .result) (s .summarize .ensures)
 
 returns-2 : tie.Need-returns-2
-unfolding anova
+unfolding anova oneWayAnova
 returns-2 c =
-    let v = c .before .before .before .before .before .before .before .validate-anova-groups in
-    let a = c .before .before .before .before .before .before .before .before .before .before .args in
-    answered _ _ (v .result) (v .ensures) (c .before .before .before .before .if1 .left) (a .kind) (cc)
+    let s = c .before .before .before in
+    answers-numbers _ _ _ (s .before .before .before .one-way-refusal .ensures) (s .before .if1 .left) (rw (c .before .enum-told .given .1) (c .fisher-anova .ensures _ (s .summarize .ensures)))
 
 returns-3 : tie.Need-returns-3
-unfolding anova
+unfolding anova oneWayAnova
 returns-3 c =
-    let v = c .before .before .before .before .before .before .before .validate-anova-groups in
-    let a = c .before .before .before .before .before .before .before .before .before .before .args in
-    answered _ _ (v .result) (v .ensures) (c .before .before .before .before .if1 .left) (a .kind) (cc)
+    let s = c .before .before .before in
+    answers-numbers _ _ _ (s .before .before .before .one-way-refusal .ensures) (s .before .if1 .left) (rw (c .before .enum-told2 .given .1) (c .welch-anova .ensures _ (s .summarize .ensures)))
 
 pub one-way-anova-spec : {M : Type 1} → statement M
 one-way-anova-spec =
     tie.close
     (tie.spec
-    validate-anova-groups-requires
+    one-way-refusal-requires
     refused-requires
     returns
+    summarize-requires
     enum-told
     fisher-anova-requires
     enum-told-2

@@ -1,14 +1,10 @@
 -- `oneway::fisher::fisher_anova` meets its contract.
 use Prim.Native.Nat.{_-_}
-use native.Mathlib.Omega.{arith}
 use borrow.Author.Needs.{needs}
-use lib.Seq.{length-take-le}
 use Rattle.oneway.specs.Fisher.{fisherAnova}
+use Rattle.oneway.proofs.Summaries.{rows-back}
 use Rattle.oneway.proofs.fisher.fisher_anova.Statement.{statement}
 use Rattle.oneway.proofs.fisher.fisher_anova.Tie as tie
-
-summarize-requires : tie.Need-summarize-requires
-summarize-requires c κs = search needs
 
 sum-requires : tie.Need-sum-requires
 sum-requires c κs = search needs
@@ -26,7 +22,7 @@ sum-rows-requires-2 : tie.Need-sum-rows-requires-2
 sum-rows-requires-2 c κs = search needs
 
 cast-minus : tie.Need-cast-minus
-cast-minus c = omega arith
+cast-minus c = search needs
 
 minus-requires : tie.Need-minus-requires
 minus-requires c κs = search needs
@@ -35,7 +31,7 @@ int-to-float-df-between : tie.Need-int-to-float-df-between
 int-to-float-df-between c = search needs
 
 cast-minus-2 : tie.Need-cast-minus-2
-cast-minus-2 c = omega arith
+cast-minus-2 c = search needs
 
 minus-requires-2 : tie.Need-minus-requires-2
 minus-requires-2 c κs = search needs
@@ -60,15 +56,14 @@ canon-requires-5 c κs = search needs
 
 returns : tie.Need-returns
 unfolding fisherAnova
-returns c =
-    let start = c .before .before .before .before .before .before .before .before .before .before .before .before .before .before .before .before .before .before in
-    rw (c .canon5 .ensures, c .before .canon4 .ensures, c .before .before .none .ensures, c .before .before .before .before .before .canon3 .ensures, c .before .before .before .before .before .before .canon2 .ensures, c .before .before .before .before .before .before .before .before .minus2 .ensures, c .before .before .before .before .before .before .before .before .before .before .minus .ensures, c .before .before .before .before .before .before .before .before .before .before .before .sum-rows2 .ensures, c .before .before .before .before .before .before .before .before .before .before .before .before .sum-rows .ensures, c .before .before .before .before .before .before .before .before .before .before .before .before .before .canon .ensures, c .before .before .before .before .before .before .before .before .before .before .before .before .before .before .before .sum .ensures, c .before .before .before .before .before .before .before .before .before .before .before .before .before .before .before .before .summarize .ensures, length-take-le (start .args .k) (start .args .rows) (omega arith))
+returns c rs e =
+    let sums = c .before .before .before .before .before .before .before .before .before in
+    rw (c .canon5 .ensures, c .before .canon4 .ensures, c .before .before .none .ensures, c .before .before .before .canon3 .ensures, c .before .before .before .before .canon2 .ensures, c .before .before .before .before .before .before .minus2 .ensures, c .before .before .before .before .before .before .before .before .minus .ensures, sums .sum-rows2 .ensures, sums .before .before .before .before .sum-rows .ensures, sums .before .before .before .before .before .before .before .before .canon .ensures, sums .before .before .before .before .before .before .before .before .before .before .sum .ensures, e, rows-back rs)
 
 pub fisher-anova-spec : {M : Type 1} → statement M
 fisher-anova-spec =
     tie.close
     (tie.spec
-    summarize-requires
     sum-requires
     int-to-float-canon
     canon-requires

@@ -3,27 +3,41 @@ use Prim.Native.Nat.{_≤_, _-_}
 use mathlib.Core.Path.{_∙_}
 use native.Mathlib.Omega.{arith}
 use borrow.Author.Needs.{needs}
-use lib.ListN.{take}
-use Rattle.stats.proofs.Adding.{Left, sum-starts, sum-step-of, sum-ends-of}
 use Rattle.stats.proofs.Adding.{Left, sum-starts}
+use Rattle.oneway.specs.Results.{linesOf, row}
 use Rattle.oneway.specs.Fisher.{squaresOf}
+use Rattle.oneway.proofs.Columns.{line-step, line-ends}
 use Rattle.oneway.proofs.fisher.sum_rows.Statement.{statement}
 use Rattle.oneway.proofs.fisher.sum_rows.Tie as tie
 
 abbrev Inv-loop : tie.InvT-loop
-Inv-loop k what rows t₀ g₀ t g = (g ≤ k) × Left (squaresOf what) (take k rows) t g
+Inv-loop sizes means devs k what t₀ g₀ t g = (g ≤ k) × Left (squaresOf what) (linesOf row k sizes means devs) t g
 
 abbrev μ-loop : tie.MeasureT-loop
-μ-loop k what rows t₀ g₀ t g = k - g
+μ-loop sizes means devs k what t₀ g₀ t g = k - g
 
 loop-holds : tie.Need-loop-holds Inv-loop μ-loop
-loop-holds c = (omega arith, sum-starts (squaresOf (c .args .what)) (take (c .args .k) (c .args .t1)))
+loop-holds c =
+    let a = c .args in
+    (search needs, sum-starts (squaresOf (a .what)) (linesOf row (a .k) (a .sizes .now) (a .means .now) (a .devs .now)))
 
-mul-term : tie.Need-mul-term Inv-loop μ-loop
-mul-term c = omega arith
+mul-t10 : tie.Need-mul-t10 Inv-loop μ-loop
+mul-t10 c = omega arith
 
-array-copy-out-term : tie.Need-array-copy-out-term Inv-loop μ-loop
-array-copy-out-term c = search needs
+element-copy-out-t13 : tie.Need-element-copy-out-t13 Inv-loop μ-loop
+element-copy-out-t13 c = search needs
+
+mul-t : tie.Need-mul-t Inv-loop μ-loop
+mul-t c = omega arith
+
+element-copy-out-t : tie.Need-element-copy-out-t Inv-loop μ-loop
+element-copy-out-t c = search needs
+
+mul-t18 : tie.Need-mul-t18 Inv-loop μ-loop
+mul-t18 c = omega arith
+
+element-copy-out-t21 : tie.Need-element-copy-out-t21 Inv-loop μ-loop
+element-copy-out-t21 c = search needs
 
 term-requires : tie.Need-term-requires Inv-loop μ-loop
 term-requires c κs = search needs
@@ -36,9 +50,9 @@ loop-less c = omega arith
 
 loop-again : tie.Need-loop-again Inv-loop μ-loop
 loop-again c =
-    let at = c .before .before .before in
+    let at = c .before .before .before .before .before in
     let a = at .before .args in
-    (omega arith, sum-step-of (squaresOf (a .what)) (a .k) (a .t1) (search needs) _ (at .loop .g) (at .loop .t) (c .term .result) (at .loop .inv .1) (c .before .before .loop-test .taken) (c .term .ensures))
+    (omega arith, line-step row (a .k) (a .sizes .now) (a .means .now) (a .devs .now) (at .before .pre) (squaresOf (a .what)) (at .loop .g) (at .loop .t) (c .term .result) (at .loop .inv .1) (c .before .before .before .before .loop-test .taken) (c .term .ensures))
 
 canon-requires : tie.Need-canon-requires Inv-loop μ-loop
 canon-requires c κs = search needs
@@ -47,7 +61,7 @@ returns : tie.Need-returns Inv-loop μ-loop
 returns c =
     let at = c .before .before in
     let a = at .before .args in
-    c .canon .ensures ∙ sum-ends-of (squaresOf (a .what)) (a .k) (a .t1) (at .loop .g) (at .loop .t) (at .loop .inv .1) (c .before .loop-test .left)
+    c .canon .ensures ∙ line-ends row (a .k) (a .sizes .now) (a .means .now) (a .devs .now) (at .before .pre) (squaresOf (a .what)) (at .loop .g) (at .loop .t) (at .loop .inv .1) (c .before .loop-test .left)
 
 pub sum-rows-spec : {M : Type 1} → statement M
 sum-rows-spec =
@@ -56,8 +70,12 @@ sum-rows-spec =
     Inv-loop
     μ-loop
     loop-holds
-    mul-term
-    array-copy-out-term
+    mul-t10
+    element-copy-out-t13
+    mul-t
+    element-copy-out-t
+    mul-t18
+    element-copy-out-t21
     term-requires
     add-g
     loop-less

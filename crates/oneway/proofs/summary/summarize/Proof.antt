@@ -1,51 +1,74 @@
 -- `oneway::summary::summarize` meets its contract.
 use Prim.Native.Nat.{_≤_, _-_, _+_}
-use mathlib.Core.Path.{_≡_, refl}
+use mathlib.Core.Path.{_≡_, refl, sym, _∙_}
 use native.Mathlib.Omega.{arith}
 use borrow.Author.Needs.{needs}
 use lib.ListN.{length, length-set}
-use lib.ListN.{take, drop}
-use Rattle.oneway.proofs.Counts.{unread}
-use Rattle.base.specs.Lists.{total}
-use Rattle.base.proofs.Fills.{fill, fill-starts-of, fill-step-of, fill-ends-of}
-use Rattle.oneway.specs.Results.{sizeOf, rowMean, nTotal, groupSizes, groupMeans, noSizes, noMeans}
-use Rattle.oneway.proofs.Counts.{sizes, size-turn, size-done, unread}
+use lib.ListN.{drop, getD}
+use Rattle.base.specs.Lists.{total, cut, over}
+use Rattle.base.proofs.Cuts.{total-turn}
+use Rattle.groups.proofs.Walk.{fits-here, faults, fine-further, laying, row-turn, rows-done, rows-laid}
+use Rattle.oneway.specs.Results.{sizeOf, rowMean, rowSqDev, noSizes, noMeans}
+use Rattle.oneway.proofs.Summaries.{column, summed}
 use Rattle.oneway.proofs.summary.summarize.Statement.{statement}
 use Rattle.oneway.proofs.summary.summarize.Tie as tie
 
 abbrev Inv-loop : tie.InvT-loop
-Inv-loop k rows n-total₀ group-sizes₀ group-means₀ g₀ n-total group-sizes group-means g =
-    (g ≤ k) × (n-total + total (drop g (sizes k rows)) ≡ nTotal (take k rows)) × (length group-sizes ≡ 16) × (length group-means ≡ 16)
-    × (fill sizeOf (take k rows) group-sizes g ≡ groupSizes (take k rows)) × (fill rowMean (take k rows) group-means g ≡ groupMeans (take k rows))
+Inv-loop readings sizes group-sizes₀ group-means₀ sq-devs₀ at₀ g₀ group-sizes group-means sq-devs at g =
+    (g ≤ length sizes) × (at + total (drop g sizes) ≡ length readings) × (faults readings sizes g at .number ≡ 0)
+    × (length group-sizes ≡ 16) × (length group-means ≡ 16) × (length sq-devs ≡ 16)
+    × (laying readings sizes g at sizeOf group-sizes ≡ over (column sizeOf (cut sizes readings)) noSizes)
+    × (laying readings sizes g at rowMean group-means ≡ over (column rowMean (cut sizes readings)) noMeans)
+    × (laying readings sizes g at rowSqDev sq-devs ≡ over (column rowSqDev (cut sizes readings)) noMeans)
 
 abbrev μ-loop : tie.MeasureT-loop
-μ-loop k rows n-total₀ group-sizes₀ group-means₀ g₀ n-total group-sizes group-means g = k - g
+μ-loop readings sizes group-sizes₀ group-means₀ sq-devs₀ at₀ g₀ group-sizes group-means sq-devs at g = length sizes - g
+
+-- the group ends within the readings
+ends : (c : tie.In-loop Inv-loop μ-loop) → c .before .loop .at + getD (c .before .before .before .before .args .sizes .now) (c .before .loop .g) 0 ≤ length (c .before .before .before .before .args .readings .now)
+ends c =
+    let at = c .before in
+    let a = at .before .before .before .args in
+    fits-here (a .readings .now) (a .sizes .now) (at .loop .g) (at .loop .at) (c .loop-test .taken) (at .loop .inv .1)
 
 loop-holds : tie.Need-loop-holds Inv-loop μ-loop
 unfolding noSizes noMeans
 loop-holds c =
-    let a = c .args in
-    (omega arith, omega arith, refl, refl, fill-starts-of sizeOf (a .k) (a .t1) noSizes (search needs), fill-starts-of rowMean (a .k) (a .t1) noMeans (search needs))
+    let start = c .before .before in
+    let xs = start .args .readings .now in
+    let ns = start .args .sizes .now in
+    let k = start .pre .sizes .groups in
+    (omega arith, omega arith, start .pre .fine, refl, refl, refl, rows-laid sizeOf xs ns noSizes k, rows-laid rowMean xs ns noMeans k, rows-laid rowSqDev xs ns noMeans k)
 
-mul-n-total : tie.Need-mul-n-total Inv-loop μ-loop
-mul-n-total c = omega arith
+mul-end : tie.Need-mul-end Inv-loop μ-loop
+mul-end c = omega arith
 
-element-copy-out-n-total : tie.Need-element-copy-out-n-total Inv-loop μ-loop
-element-copy-out-n-total c = search needs
+shared-slice-read-end : tie.Need-shared-slice-read-end Inv-loop μ-loop
+shared-slice-read-end c = omega arith
 
-add-n-total : tie.Need-add-n-total Inv-loop μ-loop
-add-n-total c =
-    let a = c .before .before .args in
-    omega (arith, c .before .before .pre .readings, size-turn (a .k) (a .t1) unread (c .before .loop .g) (search needs) (c .loop-test .taken))
+cast-end : tie.Need-cast-end Inv-loop μ-loop
+cast-end c = omega (arith, c .shared-slice-known3 .given (c .before .before .loop .g))
+
+add-end : tie.Need-add-end Inv-loop μ-loop
+add-end c = omega (arith, ends (c .before))
+
+mul-of : tie.Need-mul-of Inv-loop μ-loop
+mul-of c = omega (arith, ends (c .before))
+
+sub-of : tie.Need-sub-of Inv-loop μ-loop
+sub-of c = omega arith
+
+part-of-start : tie.Need-part-of-start Inv-loop μ-loop
+part-of-start c = omega arith
+
+part-of-end : tie.Need-part-of-end Inv-loop μ-loop
+part-of-end c = omega (arith, ends (c .before))
+
+of-requires : tie.Need-of-requires Inv-loop μ-loop
+of-requires c κs = search needs
 
 mul-group-sizes : tie.Need-mul-group-sizes Inv-loop μ-loop
 mul-group-sizes c = omega arith
-
-element-copy-out-group-sizes : tie.Need-element-copy-out-group-sizes Inv-loop μ-loop
-element-copy-out-group-sizes c = omega arith
-
-mul-group-sizes-2 : tie.Need-mul-group-sizes-2 Inv-loop μ-loop
-mul-group-sizes-2 c = omega arith
 
 array-write-group-sizes : tie.Need-array-write-group-sizes Inv-loop μ-loop
 array-write-group-sizes c = omega arith
@@ -53,14 +76,14 @@ array-write-group-sizes c = omega arith
 mul-group-means : tie.Need-mul-group-means Inv-loop μ-loop
 mul-group-means c = omega arith
 
-element-copy-out-group-means : tie.Need-element-copy-out-group-means Inv-loop μ-loop
-element-copy-out-group-means c = omega arith
-
-mul-group-means-2 : tie.Need-mul-group-means-2 Inv-loop μ-loop
-mul-group-means-2 c = omega arith
-
 array-write-group-means : tie.Need-array-write-group-means Inv-loop μ-loop
 array-write-group-means c = omega arith
+
+mul-sq-devs : tie.Need-mul-sq-devs Inv-loop μ-loop
+mul-sq-devs c = omega arith
+
+array-write-sq-devs : tie.Need-array-write-sq-devs Inv-loop μ-loop
+array-write-sq-devs c = omega arith
 
 add-g : tie.Need-add-g Inv-loop μ-loop
 add-g c = omega arith
@@ -70,24 +93,43 @@ loop-less c = omega arith
 
 loop-again : tie.Need-loop-again Inv-loop μ-loop
 loop-again c =
-    let at = c .before in
-    let a = at .before .args in
-    let h = c .loop-test .taken in (
+    let at = c .before .before .before .before in
+    let start = at .before .before .before in
+    let xs = start .args .readings .now in
+    let ns = start .args .sizes .now in
+    let g = at .loop .g in
+    let i = at .loop .at in
+    let h = c .before .before .before .loop-test .taken in
+    let room = at .loop .inv .1 in
+    let small = start .pre .sizes .readings in
+    let fine = at .loop .inv .2 in (
       omega arith,
-      omega (arith, size-turn (a .k) (a .t1) unread (at .loop .g) (search needs) h),
+      omega (arith, total-turn ns g h),
+      fine-further xs ns g i h room small fine,
       simp length-set (omega arith),
       simp length-set (omega arith),
-      fill-step-of sizeOf (a .k) (a .t1) (search needs) unread (at .loop .group-sizes) (at .loop .g) _ (at .loop .inv .4) h refl,
-      fill-step-of rowMean (a .k) (a .t1) (search needs) unread (at .loop .group-means) (at .loop .g) _ (at .loop .inv .5) h refl,
+      simp length-set (omega arith),
+      row-turn xs ns g i h room small fine sizeOf (at .loop .group-sizes) (c .of .result) (c .of .ensures) ∙ at .loop .inv .6,
+      row-turn xs ns g i h room small fine rowMean (at .loop .group-means) (c .of .result) (c .of .ensures) ∙ at .loop .inv .7,
+      row-turn xs ns g i h room small fine rowSqDev (at .loop .sq-devs) (c .of .result) (c .of .ensures) ∙ at .loop .inv .8,
     )
+
+cast-t26 : tie.Need-cast-t26 Inv-loop μ-loop
+cast-t26 c = omega (arith, c .before .before .before .before .pre .sizes .readings)
 
 returns : tie.Need-returns Inv-loop μ-loop
 returns c =
     let at = c .before in
-    let a = at .before .args in
+    let start = at .before .before .before in
+    let xs = start .args .readings .now in
+    let ns = start .args .sizes .now in
+    let g = at .loop .g in
+    let i = at .loop .at in
     let h = c .loop-test .left in
-    let t : at .loop .n-total ≡ nTotal (take (a .k) (a .t1)) = omega (arith, size-done (a .k) (a .t1) (at .loop .g) h) in
-    rw (t, fill-ends-of sizeOf (a .k) (a .t1) (at .loop .group-sizes) (at .loop .g) (at .loop .inv .4) h, fill-ends-of rowMean (a .k) (a .t1) (at .loop .group-means) (at .loop .g) (at .loop .inv .5) h)
+    summed xs ns (start .pre) _ _ _
+    (sym (rows-done xs ns g i sizeOf (at .loop .group-sizes) h) ∙ at .loop .inv .6)
+    (sym (rows-done xs ns g i rowMean (at .loop .group-means) h) ∙ at .loop .inv .7)
+    (sym (rows-done xs ns g i rowSqDev (at .loop .sq-devs) h) ∙ at .loop .inv .8)
 
 pub summarize-spec : {M : Type 1} → statement M
 summarize-spec =
@@ -96,18 +138,23 @@ summarize-spec =
     Inv-loop
     μ-loop
     loop-holds
-    mul-n-total
-    element-copy-out-n-total
-    add-n-total
+    mul-end
+    shared-slice-read-end
+    cast-end
+    add-end
+    mul-of
+    sub-of
+    part-of-start
+    part-of-end
+    of-requires
     mul-group-sizes
-    element-copy-out-group-sizes
-    mul-group-sizes-2
     array-write-group-sizes
     mul-group-means
-    element-copy-out-group-means
-    mul-group-means-2
     array-write-group-means
+    mul-sq-devs
+    array-write-sq-devs
     add-g
     loop-less
     loop-again
+    cast-t26
     returns)

@@ -1,0 +1,84 @@
+// The calls that the benchmark times, exported to the program that tools/bench builds.
+use oneway::AnovaKind;
+ghost use mathlib.Core.Path.{_≡_};
+ghost use mathlib.Core.List.{_++_};
+ghost use Prim.Native.Nat.{_≤_};
+ghost use lib.ListN.{length};
+ghost use Rattle.base.specs.Lists.{over};
+ghost use Rattle.oneway.specs.declared.AnovaKind.the-variants.{Fisher, Welch};
+ghost use Rattle.root.specs.Root.{sqrtOf};
+ghost use Rattle.speed.specs.Calls.{analysed};
+
+// How many numbers an analysis hands out: nine, and the means of 16 groups.
+const PLACES: usize = 25;
+
+// The numbers, put into the first places; the places behind keep what they hold.
+fn put(out: &mut [f64], numbers: &[f64])
+    requires { ⌜ length (now numbers) ≤ length (now out) ⌝ }
+    ensures { λ _. ⌜ now (out .exit) ≡ over (now (numbers .entry)) (now (out .entry)) ⌝ }
+{
+    let mut i = 0;
+    while i < numbers.len() {
+        out[i] = numbers[i];
+        i += 1;
+    }
+}
+
+// Both lists of numbers, one behind the other.
+fn hand_out(out: &mut [f64], figures: [f64; 9], means: [f64; 16])
+    requires { ⌜ 25 ≤ length (now out) ⌝ }
+    ensures { λ _. ⌜ now (out .exit) ≡ over (figures ++ means) (now (out .entry)) ⌝ }
+{
+    put(out, &figures);
+    put(&mut out[9..], &means);
+}
+
+// One analysis: 0 and its numbers, or the number of a refusal and `out` as it was.
+fn analyse(readings: &[f64], sizes: &[u32], out: &mut [f64], kind: AnovaKind) -> u32
+    ensures { λ r. ⌜ (now (out .exit), r) ≡ analysed kind (now (readings .entry)) (now (sizes .entry)) (now (out .entry)) ⌝ }
+{
+    if out.len() < PLACES {
+        return 12;
+    }
+    let r = oneway::one_way_anova(readings, sizes, kind);
+    let number = r.refusal.number;
+    if number != 0 {
+        return number;
+    }
+    let figures = [
+        r.statistic,
+        r.df_between,
+        r.df_within,
+        r.ss_between,
+        r.ss_within,
+        r.ss_total,
+        r.ms_between,
+        r.ms_within,
+        r.grand_mean,
+    ];
+    let means = r.group_means;
+    hand_out(out, figures, means);
+    0
+}
+
+#[no_mangle]
+pub extern "C" fn speed_fisher(readings: &[f64], sizes: &[u32], out: &mut [f64]) -> u32
+    ensures { λ r. ⌜ (now (out .exit), r) ≡ analysed Fisher (now (readings .entry)) (now (sizes .entry)) (now (out .entry)) ⌝ }
+{
+    analyse(readings, sizes, out, AnovaKind::Fisher)
+}
+
+#[no_mangle]
+pub extern "C" fn speed_welch(readings: &[f64], sizes: &[u32], out: &mut [f64]) -> u32
+    ensures { λ r. ⌜ (now (out .exit), r) ≡ analysed Welch (now (readings .entry)) (now (sizes .entry)) (now (out .entry)) ⌝ }
+{
+    analyse(readings, sizes, out, AnovaKind::Welch)
+}
+
+// The square root, beside the machine's.
+#[no_mangle]
+pub extern "C" fn speed_sqrt(x: f64) -> f64
+    ensures { λ r. ⌜ r ≡ sqrtOf x ⌝ }
+{
+    root::sqrt(x)
+}

@@ -1,0 +1,16 @@
+//! The proved calls and the Rust original, timed on the same inputs in one run. `tools/bench` builds and runs it.
+//!
+//! A new line: its exported call in `crates/speed` and in `ours.rs`, and a function here or in a file of its own that
+//! first compares the two answers and then hands both calls to `Bench::line`.
+
+mod bench;
+mod inputs;
+mod oneway;
+mod ours;
+mod root;
+
+fn main() {
+    let mut bench = bench::Bench::from_args();
+    oneway::lines(&mut bench);
+    root::lines(&mut bench);
+}

@@ -1,0 +1,60 @@
+//! The exported calls of `crates/speed`, declared by hand: nothing checks these lines against the Rattle source.
+//! A slice is passed as a pointer and a length. No call has a `requires`, so each is safe behind its wrapper.
+
+mod c {
+    extern "C" {
+        pub fn speed_fisher(
+            readings: *const f64,
+            n: usize,
+            sizes: *const u32,
+            k: usize,
+            out: *mut f64,
+            places: usize,
+        ) -> u32;
+        pub fn speed_welch(
+            readings: *const f64,
+            n: usize,
+            sizes: *const u32,
+            k: usize,
+            out: *mut f64,
+            places: usize,
+        ) -> u32;
+        pub fn speed_sqrt(x: f64) -> f64;
+    }
+}
+
+/// How many numbers a one-way analysis hands out.
+pub const ONE_WAY: usize = 25;
+
+#[inline]
+pub fn fisher(readings: &[f64], sizes: &[u32], out: &mut [f64]) -> u32 {
+    unsafe {
+        c::speed_fisher(
+            readings.as_ptr(),
+            readings.len(),
+            sizes.as_ptr(),
+            sizes.len(),
+            out.as_mut_ptr(),
+            out.len(),
+        )
+    }
+}
+
+#[inline]
+pub fn welch(readings: &[f64], sizes: &[u32], out: &mut [f64]) -> u32 {
+    unsafe {
+        c::speed_welch(
+            readings.as_ptr(),
+            readings.len(),
+            sizes.as_ptr(),
+            sizes.len(),
+            out.as_mut_ptr(),
+            out.len(),
+        )
+    }
+}
+
+#[inline]
+pub fn sqrt(x: f64) -> f64 {
+    unsafe { c::speed_sqrt(x) }
+}
