@@ -37,8 +37,13 @@ pub fn lines(bench: &mut Bench) {
 
 /// Every number that both have, bit for bit. What Welch's analysis has not is +0.0 in ours.
 fn agree(name: &str, readings: &[f64], sizes: &[u32], groups: &[&[f64]], kind: AnovaKind, call: Call) {
-    let mut out = [f64::NAN; ours::ONE_WAY];
+    // the call keeps to its places, and writes nothing where it refuses: a slip in ours.rs would show here
+    let mut out = [7.5; ours::ONE_WAY + 2];
+    assert_eq!(call(readings, sizes, &mut out[..ours::ONE_WAY - 1]), 12, "{name}: too few places");
+    assert_eq!(call(readings, &sizes[1..], &mut out), 10, "{name}: a size too few");
+    assert!(out.iter().all(|&x| x == 7.5), "{name}: a refused call wrote");
     assert_eq!(call(readings, sizes, &mut out), 0, "{name}: refused");
+    assert_eq!(out[ours::ONE_WAY..], [7.5; 2], "{name}: a place too many");
     let r = one_way_anova(groups, kind).unwrap();
     let absent = 0.0;
     let mut rust = vec![

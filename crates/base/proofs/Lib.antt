@@ -7,3 +7,6 @@ pub mod Order
 pub mod Fills
 pub mod Words
 pub mod Runs
+pub mod Firsts
+pub mod Faults
+pub mod Edits

@@ -1,2 +1,4 @@
 pub mod Doors
 pub mod Walk
+pub mod Counted
+pub mod Told

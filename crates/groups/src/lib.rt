@@ -1,4 +1,6 @@
 // One-way data: the checks at the door, the view of one group, and the row that each group is worked into.
+pub mod sound;
+
 use base::Refusal;
 ghost use mathlib.Core.Path.{_≡_};
 ghost use mathlib.Core.Bool.{false};

@@ -4,15 +4,17 @@ use mathlib.Core.List.{List, [], _∷_, map, map-map, map-id}
 use Prim.Native.Nat.{ℕ, _≤_}
 use native.Mathlib.Omega.{arith}
 use lib.Ieee.{Float}
-use lib.ListN.{length, take, length-map, length-append, length-drop}
+use lib.ListN.{length, take, length-map, length-append, length-drop, length-take}
 use lib.Seq.{take-at}
 use Rattle.base.specs.Lists.{total, cut, over}
 use Rattle.base.proofs.Cuts.{length-cut, lengths-cut}
 use Rattle.groups.specs.declared.Row.{Row}
 use Rattle.groups.specs.Checks.{Passed}
 use Rattle.groups.specs.Rows.{rowOf}
+use Rattle.groups.specs.Soundness.{soundRefusal}
+use Rattle.groups.proofs.Counted.{sound}
 use Rattle.oneway.specs.declared.summary.Summary.{Summary}
-use Rattle.oneway.specs.Results.{sizeOf, rowMean, rowSqDev, nTotal, noSizes, noMeans, groupSizes, groupMeans, groupSqDevs, linesOf, row, summaryOf, Long, Lined}
+use Rattle.oneway.specs.Results.{sizeOf, rowMean, rowSqDev, nTotal, noSizes, noMeans, groupSizes, groupMeans, groupSqDevs, linesOf, row, summaryOf, Small, Long, Lined}
 use Rattle.oneway.specs.Welch.{weightOf, weights, weighed, allWeighed}
 use Rattle.oneway.proofs.Columns.{lines-of}
 
@@ -73,3 +75,11 @@ lined rs h = record { few = h; sizes = omega (arith, over-long (map sizeOf rs) n
 -- a summary of groups that passed the checks
 pub lined-groups : (xs : List Float) (ns : List ℕ) → Passed xs ns → (s : Summary) → s ≡ summaryOf (map rowOf (cut ns xs)) → Lined s
 lined-groups xs ns p s e = rw e (lined (map rowOf (cut ns xs)) (rw (length-map (cut ns xs) rowOf, length-cut ns xs) (p .sizes .groups)))
+
+-- rows that the caller holds: few enough, and their summary has a line for each
+module _ (k : ℕ) (rows : List Row) (z : soundRefusal k rows .number ≡ 0) where
+  pub small-sound : Small k rows
+  small-sound = let s = sound k rows z in record { groups = s .high; readings = s .fits }
+
+  pub lined-rows : (s : Summary) → s ≡ summaryOf (take k rows) → Lined s
+  lined-rows s e = rw e (lined (take k rows) (simp length-take (omega (arith, sound k rows z .high))))

@@ -4,9 +4,10 @@ mod summary;
 mod welch;
 
 use base::Refusal;
+use groups::Row;
 ghost use mathlib.Core.Path.{_≡_};
 ghost use Rattle.oneway.specs.Results.{refusedResult};
-ghost use Rattle.oneway.specs.Anova.{oneWayAnova};
+ghost use Rattle.oneway.specs.Anova.{oneWayAnova, rowsReport};
 
 pub enum AnovaKind {
     Fisher,
@@ -68,6 +69,21 @@ pub fn one_way_anova(readings: &[f64], sizes: &[u32], kind: AnovaKind) -> OneWay
         return refused(refusal);
     }
     let s = summary::summarize(readings, sizes);
+    match kind {
+        AnovaKind::Fisher => fisher::fisher_anova(s, readings),
+        AnovaKind::Welch => welch::welch_anova(s),
+    }
+}
+
+// The analysis of k groups whose rows the caller holds already, with their readings: the same formulas, and no row is worked out anew.
+pub fn report(rows: [Row; 16], k: usize, readings: &[f64], kind: AnovaKind) -> OneWayAnovaResult
+    ensures { λ r. ⌜ r ≡ rowsReport kind k rows (now (readings .entry)) ⌝ }
+{
+    let unsound = groups::sound::rows_refusal(rows, k);
+    if unsound.number != 0 {
+        return refused(unsound);
+    }
+    let s = summary::summarize_rows(rows, k);
     match kind {
         AnovaKind::Fisher => fisher::fisher_anova(s, readings),
         AnovaKind::Welch => welch::welch_anova(s),

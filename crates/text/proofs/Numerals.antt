@@ -1,11 +1,11 @@
 -- A number's decimal digits in 20 places: there is room, and they are read off again.
-use mathlib.Core.Path.{_≡_, refl, sym, ap, _∙_}
-use mathlib.Core.List.{List, _++_}
+use mathlib.Core.Path.{_≡_, ap, _∙_}
+use mathlib.Core.List.{List}
 use mathlib.Core.Bool.{Bool, true, false, cond}
 use Prim.Native.Nat.{ℕ, zero, suc, _+_, _/_, _≤_}
 use native.Mathlib.Omega.{arith}
 use lib.Dec.{ltb}
-use lib.ListN.{length, take, drop, length-append, length-drop, replicate}
+use lib.ListN.{length, take, length-append, length-drop, replicate}
 use lib.Seq.{take-at}
 use Rattle.base.specs.Lists.{over}
 use Rattle.text.specs.declared.Numeral.{Numeral}
@@ -26,7 +26,8 @@ unfolding widthOf
 width-fits n = width-in 19 n
 
 -- the digits and how many they are make the number's text
-pub gathered : (n : ℕ) (all : List ℕ) (len : ℕ) → all ≡ over (digits 10 len n) (replicate 20 0) → len ≡ widthOf n → record { digits = all; len = len } ≡ decimalOf n
+pub gathered : (n : ℕ) (all : List ℕ) (len : ℕ) → all ≡ over (digits 10 len n) (replicate 20 0) → len ≡ widthOf n
+    → record { digits = all; len = len } ≡ decimalOf n
 unfolding decimalOf numeralOf blank
 gathered n all len e w = cc
 

@@ -1,6 +1,6 @@
 -- The loop that counts the decimal digits of a number.
-use mathlib.Core.Path.{_≡_, refl, ap, _∙_}
-use Prim.Native.Nat.{ℕ, zero, suc, _+_, _-_, _*_, _/_, _^_, _<_, _≤_}
+use mathlib.Core.Path.{_≡_, refl, ap}
+use Prim.Native.Nat.{ℕ, zero, suc, _+_, _-_, _/_, _^_, _<_, _≤_}
 use native.Mathlib.Nat.{pow-suc}
 use native.Mathlib.Omega.{arith}
 use borrow.Author.Tests.{lt-ltb, le-ltb}
@@ -26,7 +26,12 @@ pub counts : (n rest count : ℕ) → Counting n rest count → 10 ≤ rest → 
 counts n rest count k h =
     let m = more (20 - count) rest (k .small) h in
     let e : suc (20 - (count + 1)) ≡ 20 - count = omega (arith, m .0) in
-    record { few = omega (arith, m .0); small = rw e (m .1); left = let d : 20 - count - 1 ≡ 20 - (count + 1) = omega arith in omega (arith, k .left, m .2, ap (λ (j : ℕ). widthIn j (rest / 10)) d) }
+    let d : 20 - count - 1 ≡ 20 - (count + 1) = omega arith in
+    record {
+      few = omega (arith, m .0);
+      small = rw e (m .1);
+      left = omega (arith, k .left, m .2, ap (λ (j : ℕ). widthIn j (rest / 10)) d);
+    }
 
 -- the first digit is counted already
 last : (k rest : ℕ) → rest < 10 → widthIn k rest ≡ 1

@@ -1,2 +1,4 @@
 pub mod Numbers
 pub mod Put
+pub mod Meaning
+mod Worked

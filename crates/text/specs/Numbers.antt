@@ -3,7 +3,7 @@ use Prim.Native.Nat.{ℕ, zero, suc, _+_, _/_, _%_}
 use mathlib.Core.List.{List, [], _∷_, _++_}
 use mathlib.Core.Bool.{cond}
 use lib.Dec.{ltb}
-use lib.ListN.{length, replicate}
+use lib.ListN.{replicate}
 use Rattle.base.specs.Lists.{over}
 use Rattle.text.specs.declared.Numeral.{Numeral}
 

@@ -1,5 +1,7 @@
 -- `text::put_hex` meets its contract.
+use mathlib.Core.Path.{_∙_, ap}
 use borrow.Author.Needs.{needs}
+use Rattle.text.specs.Put.{putOf}
 use Rattle.text.proofs.put_hex.Statement.{statement}
 use Rattle.text.proofs.put_hex.Tie as tie
 
@@ -16,7 +18,10 @@ same-length : tie.Need-same-length
 same-length c = search needs
 
 returns : tie.Need-returns
-returns c = cc
+returns c =
+    let h = c .before .before .before .before .before in
+    let a = h .before .before .args in
+    c .before .before .put .ensures ∙ ap (putOf (a .out .now) (a .at)) (h .hex .ensures)
 
 pub put-hex-spec : {M : Type 1} → statement M
 put-hex-spec =

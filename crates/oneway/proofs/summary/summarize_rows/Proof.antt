@@ -9,13 +9,14 @@ use lib.Seq.{length-take-le}
 use Rattle.base.specs.Lists.{total}
 use Rattle.base.proofs.Fills.{fill, fill-starts-of, fill-step-of, fill-ends-of}
 use Rattle.oneway.specs.Results.{sizeOf, rowMean, rowSqDev, nTotal, groupSizes, groupMeans, groupSqDevs, noSizes, noMeans}
-use Rattle.oneway.proofs.Counts.{sizes, size-turn, size-done, unread}
+use Rattle.groups.specs.Soundness.{sizesIn}
+use Rattle.groups.proofs.Counted.{size-turn, size-done, unread}
 use Rattle.oneway.proofs.summary.summarize_rows.Statement.{statement}
 use Rattle.oneway.proofs.summary.summarize_rows.Tie as tie
 
 abbrev Inv-loop : tie.InvT-loop
 Inv-loop k rows n-total₀ group-sizes₀ group-means₀ sq-devs₀ g₀ n-total group-sizes group-means sq-devs g =
-    (g ≤ k) × (n-total + total (drop g (sizes k rows)) ≡ nTotal (take k rows)) × (length group-sizes ≡ 16) × (length group-means ≡ 16) × (length sq-devs ≡ 16)
+    (g ≤ k) × (n-total + total (drop g (sizesIn k rows)) ≡ nTotal (take k rows)) × (length group-sizes ≡ 16) × (length group-means ≡ 16) × (length sq-devs ≡ 16)
     × (fill sizeOf (take k rows) group-sizes g ≡ groupSizes (take k rows)) × (fill rowMean (take k rows) group-means g ≡ groupMeans (take k rows))
     × (fill rowSqDev (take k rows) sq-devs g ≡ groupSqDevs (take k rows))
 
@@ -37,7 +38,7 @@ element-copy-out-n-total c = search needs
 add-n-total : tie.Need-add-n-total Inv-loop μ-loop
 add-n-total c =
     let a = c .before .before .args in
-    omega (arith, c .before .before .pre .readings, size-turn (a .k) (a .t1) unread (c .before .loop .g) (search needs) (c .loop-test .taken))
+    omega (arith, c .before .before .pre .readings, size-turn (a .k) (a .t1) (c .before .loop .g) (search needs) (c .loop-test .taken))
 
 mul-group-sizes : tie.Need-mul-group-sizes Inv-loop μ-loop
 mul-group-sizes c = omega arith
@@ -87,7 +88,7 @@ loop-again c =
     let a = at .before .args in
     let h = c .loop-test .taken in (
       omega arith,
-      omega (arith, size-turn (a .k) (a .t1) unread (at .loop .g) (search needs) h),
+      omega (arith, size-turn (a .k) (a .t1) (at .loop .g) (search needs) h),
       simp length-set (omega arith),
       simp length-set (omega arith),
       simp length-set (omega arith),
@@ -101,7 +102,7 @@ returns c =
     let at = c .before in
     let a = at .before .args in
     let h = c .loop-test .left in
-    let t : at .loop .n-total ≡ nTotal (take (a .k) (a .t1)) = omega (arith, size-done (a .k) (a .t1) (at .loop .g) h) in
+    let t : at .loop .n-total ≡ nTotal (take (a .k) (a .t1)) = omega (arith, size-done (a .k) (a .t1) (at .loop .g) (search needs) h) in
     let k : length (take (a .k) (a .t1)) ≡ a .k = length-take-le (a .k) (a .t1) (search needs) in
     rw (t, fill-ends-of sizeOf (a .k) (a .t1) (at .loop .group-sizes) (at .loop .g) (at .loop .inv .5) h, fill-ends-of rowMean (a .k) (a .t1) (at .loop .group-means) (at .loop .g) (at .loop .inv .6) h, fill-ends-of rowSqDev (a .k) (a .t1) (at .loop .sq-devs) (at .loop .g) (at .loop .inv .7) h, k)
 

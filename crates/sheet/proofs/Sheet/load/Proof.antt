@@ -1,0 +1,55 @@
+-- `sheet::Sheet::load` meets its contract.
+use Prim.Native.Nat.{ℕ, _≤_, _<_, _-_, _+_, _*_}
+use mathlib.Core.Path.{_≡_, refl, sym, _∙_, ap}
+use native.Mathlib.Omega.{arith}
+use borrow.Author.Needs.{needs}
+use lib.ListN.{length, length-set}
+use lib.Ieee.{ofBits}
+use Rattle.sheet.specs.Sheets.{zeroPlaces}
+use Rattle.sheet.proofs.Loaded.{load-refused, load-fits, load-made}
+use Rattle.sheet.proofs.Sheet.load.Statement.{statement}
+use Rattle.sheet.proofs.Sheet.load.Tie as tie
+use Rattle.sheet.proofs.Sheet.load.Reads as reads
+use Rattle.sheet.proofs.Sheet.load.Lts as lts
+use Rattle.base.proofs.Refusal.none.Reads as none-reads
+use Rattle.groups.proofs.validate_anova_groups.Reads as validate-anova-groups-reads
+use Rattle.sheet.proofs.places.lay.Reads as lay-reads
+
+validate-anova-groups-requires : tie.Need-validate-anova-groups-requires
+validate-anova-groups-requires c κs = search needs
+
+returns : tie.Need-returns
+unfolding zeroPlaces ofBits
+returns c =
+    let v = c .before .before .before .before .validate-anova-groups in
+    load-refused _ _ (v .result) (v .ensures) (c .if1 .taken)
+
+slice-aggregate-lay : tie.Need-slice-aggregate-lay
+slice-aggregate-lay c = search needs
+
+lay-requires : tie.Need-lay-requires
+lay-requires c κs =
+    let e = c .before in
+    let v = e .before .before .before .before .validate-anova-groups in
+    load-fits _ _ (v .result) (v .ensures) (e .if1 .left)
+
+none-requires : tie.Need-none-requires
+none-requires c κs = search needs
+
+returns-2 : tie.Need-returns-2
+unfolding zeroPlaces ofBits
+returns-2 c =
+    let e = c .before .before .before .before in
+    let v = e .before .before .before .before .validate-anova-groups in
+    load-made _ _ (v .result) (v .ensures) (e .if1 .left) (c .before .before .lay .ensures) (c .none .ensures)
+
+pub load-spec : {M : Type 1} → statement M
+load-spec =
+    tie.close
+    (tie.spec
+    validate-anova-groups-requires
+    returns
+    slice-aggregate-lay
+    lay-requires
+    none-requires
+    returns-2)
