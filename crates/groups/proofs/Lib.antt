@@ -1,4 +1,3 @@
-pub mod Doors
-pub mod Walk
+pub mod Laid
 pub mod Counted
 pub mod Told

@@ -7,7 +7,7 @@ use Rattle.base.specs.declared.Refusal.{Refusal}
 use Rattle.base.specs.Lists.{cut}
 use Rattle.base.proofs.Order.{told, told-which}
 use Rattle.groups.specs.declared.GroupStats.{GroupStats}
-use Rattle.groups.specs.Checks.{oneWayRefusal}
+use Rattle.door.specs.Checks.{oneWayRefusal}
 use Rattle.groups.specs.Rows.{groupStats, refusedStats, validateAnovaGroups}
 
 abbrev refusalIn : GroupStats → Refusal

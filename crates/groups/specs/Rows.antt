@@ -12,7 +12,7 @@ use Rattle.stats.specs.Sums.{meanOf, sqDev}
 use Rattle.stats.specs.Figures.{meanRefusal}
 use Rattle.groups.specs.declared.Row.{Row}
 use Rattle.groups.specs.declared.GroupStats.{GroupStats}
-use Rattle.groups.specs.Checks.{oneWayRefusal}
+use Rattle.door.specs.Checks.{oneWayRefusal}
 
 -- the row of no group
 abbrev pub emptyRow : Row

@@ -9,7 +9,7 @@ use lib.Seq.{take-at}
 use Rattle.base.specs.Lists.{total, cut, over}
 use Rattle.base.proofs.Cuts.{length-cut, lengths-cut}
 use Rattle.groups.specs.declared.Row.{Row}
-use Rattle.groups.specs.Checks.{Passed}
+use Rattle.door.specs.Checks.{Passed}
 use Rattle.groups.specs.Rows.{rowOf}
 use Rattle.groups.specs.Soundness.{soundRefusal}
 use Rattle.groups.proofs.Counted.{sound}

@@ -6,7 +6,7 @@ use lib.ListN.{take}
 use Rattle.base.specs.Lists.{cut}
 use Rattle.base.specs.Refusals.{guarded}
 use Rattle.groups.specs.declared.Row.{Row}
-use Rattle.groups.specs.Checks.{oneWayRefusal}
+use Rattle.door.specs.Checks.{oneWayRefusal}
 use Rattle.groups.specs.Rows.{rowOf}
 use Rattle.groups.specs.Soundness.{soundRefusal}
 use Rattle.oneway.specs.declared.OneWayAnovaResult.{OneWayAnovaResult}

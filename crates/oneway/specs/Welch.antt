@@ -11,6 +11,8 @@ use Rattle.stats.specs.Sums.{sumBy}
 use Rattle.groups.specs.declared.Row.{Row}
 use Rattle.oneway.specs.declared.OneWayAnovaResult.{OneWayAnovaResult}
 use Rattle.oneway.specs.declared.welch.Weighed.{Weighed}
+use Rattle.oneway.specs.declared.welch.WelchSums.{WelchSums}
+use Rattle.oneway.specs.declared.welch.WelchTest.{WelchTest}
 use Rattle.oneway.specs.declared.welch.Share.{Share}
 use Rattle.oneway.specs.declared.welch.Share.the-variants.{Weight, Mean, Spread, Rest}
 use Rattle.oneway.specs.Results.{nTotal, groupSizes, groupMeans, noMeans}
@@ -43,32 +45,48 @@ weights rs = over (map (weightOf (length rs)) rs) noMeans
 abbrev pub weighed : ℕ → Float → Float → Weighed
 weighed n m w = record { size = n; mean = m; weight = w }
 
-abbrev pub sumWeights : List Row → Float
-sumWeights rs = sumBy (shareOf Weight) (allWeighed rs)
+-- over the weighed rows ws: the weights, the weighted mean, the spread of the means about it, and the adjustment for unequal variances
+abbrev pub sumWeights : List Weighed → Float
+sumWeights ws = sumBy (shareOf Weight) ws
 
-abbrev pub weightedGrandMean : List Row → Float
-weightedGrandMean rs = sumBy (shareOf Mean) (allWeighed rs) ⊘ sumWeights rs
+abbrev pub weightedGrandMean : List Weighed → Float
+weightedGrandMean ws = sumBy (shareOf Mean) ws ⊘ sumWeights ws
 
-abbrev pub fNumerator : List Row → Float
-fNumerator rs = sumBy (shareOf (Spread (weightedGrandMean rs))) (allWeighed rs) ⊘ count (length rs - 1)
+abbrev pub spread : List Weighed → Float
+spread ws = sumBy (shareOf (Spread (weightedGrandMean ws))) ws
 
--- the adjustment for unequal variances, and lambda
-abbrev pub adjustment : List Row → Float
-adjustment rs = sumBy (shareOf (Rest (sumWeights rs))) (allWeighed rs)
+abbrev pub adjustment : List Weighed → Float
+adjustment ws = sumBy (shareOf (Rest (sumWeights ws))) ws
 
--- `(k * k - 1) as f64`
-abbrev pub kSquaredLessOne : List Row → Float
-kSquaredLessOne rs = count (length rs * length rs - 1)
+abbrev pub welchSums : List Weighed → WelchSums
+welchSums ws = record { spread = spread ws; adjustment = adjustment ws }
 
-abbrev pub lambda : List Row → Float
-lambda rs = adjustment rs ⊗ three ⊘ kSquaredLessOne rs
+-- the test of k groups with these sums; `(k * k - 1) as f64` comes in twice
+abbrev pub kSquaredLessOne : ℕ → Float
+kSquaredLessOne k = count (k * k - 1)
+
+abbrev pub lambda : ℕ → WelchSums → Float
+lambda k t = t .adjustment ⊗ three ⊘ kSquaredLessOne k
+
+abbrev pub fNumerator : ℕ → WelchSums → Float
+fNumerator k t = t .spread ⊘ count (k - 1)
+
+abbrev pub welchTest : ℕ → WelchSums → WelchTest
+welchTest k t = record {
+  statistic = fNumerator k t ⊘ (one ⊕ two ⊗ lambda k t ⊗ count (k - 2) ⊘ three);
+  «df_between» = count (k - 1);
+  «df_within» = kSquaredLessOne k ⊘ (three ⊗ t .adjustment);
+}
+
+abbrev pub testOf : List Row → WelchTest
+testOf rs = welchTest (length rs) (welchSums (allWeighed rs))
 
 unfoldable pub welchAnova : List Row → OneWayAnovaResult
 welchAnova rs = record {
   refusal = none;
-  statistic = fNumerator rs ⊘ (one ⊕ two ⊗ lambda rs ⊗ count (length rs - 2) ⊘ three);
-  «df_between» = count (length rs - 1);
-  «df_within» = kSquaredLessOne rs ⊘ (three ⊗ adjustment rs);
+  statistic = testOf rs .statistic;
+  «df_between» = testOf rs .«df_between»;
+  «df_within» = testOf rs .«df_within»;
   «has_ss» = false;
   «ss_between» = plusZero;
   «ss_within» = plusZero;

@@ -64,7 +64,7 @@ pub fn refused(refusal: Refusal) -> OneWayAnovaResult
 pub fn one_way_anova(readings: &[f64], sizes: &[u32], kind: AnovaKind) -> OneWayAnovaResult
     ensures { λ r. ⌜ r ≡ oneWayAnova kind (now (readings .entry)) (now (sizes .entry)) ⌝ }
 {
-    let refusal = groups::one_way_refusal(readings, sizes);
+    let refusal = door::one_way_refusal(readings, sizes);
     if refusal.number != 0 {
         return refused(refusal);
     }

@@ -4,7 +4,7 @@ ghost use mathlib.Core.Path.{_≡_};
 ghost use mathlib.Core.List.{map};
 ghost use lib.ListN.{take};
 ghost use Rattle.base.specs.Lists.{cut};
-ghost use Rattle.groups.specs.Checks.{Passed};
+ghost use Rattle.door.specs.Checks.{Passed};
 ghost use Rattle.groups.specs.Rows.{rowOf};
 ghost use Rattle.oneway.specs.Results.{Small, summaryOf};
 

@@ -5,16 +5,29 @@ use base::Refusal;
 use groups::Row;
 ghost use mathlib.Core.Path.{_≡_};
 ghost use mathlib.Core.List.{List};
+ghost use Prim.Native.Nat.{_≤_};
 ghost use Rattle.groups.specs.declared.Row.{Row};
 ghost use Rattle.stats.specs.Sums.{sumBy};
 ghost use Rattle.oneway.specs.Results.{Long, Lined, linesOf, row, summaryOf};
-ghost use Rattle.oneway.specs.Welch.{weigh, weighed, weights, shareOf, welchAnova};
+ghost use Rattle.oneway.specs.Welch.{weigh, weighed, weights, shareOf, welchSums, welchTest, welchAnova};
 
 // A row with its weight in place of its squared distances.
 pub struct Weighed {
     pub size: u32,
     pub mean: f64,
     pub weight: f64,
+}
+
+// The spread of the groups' means about their weighted mean, and the adjustment for unequal variances.
+pub struct WelchSums {
+    pub spread: f64,
+    pub adjustment: f64,
+}
+
+pub struct WelchTest {
+    pub statistic: f64,
+    pub df_between: f64,
+    pub df_within: f64,
 }
 
 // What is added up over the weighed rows.
@@ -104,39 +117,55 @@ fn sum_weighed(
     float::canon(t)
 }
 
+fn welch_sums(sizes: &[u32; 16], means: &[f64; 16], weights: &[f64; 16], k: usize) -> WelchSums
+    requires { ⌜ Long k (now sizes) (now means) (now weights) ⌝ }
+    ensures { λ r. ⌜ r ≡ welchSums (linesOf weighed k (now (sizes .entry)) (now (means .entry)) (now (weights .entry))) ⌝ }
+{
+    let sum_weights = sum_weighed(sizes, means, weights, k, Share::Weight);
+    let weighted_grand_mean = sum_weighed(sizes, means, weights, k, Share::Mean) / sum_weights;
+    let spread = sum_weighed(sizes, means, weights, k, Share::Spread(weighted_grand_mean));
+    let adjustment = sum_weighed(sizes, means, weights, k, Share::Rest(sum_weights));
+    WelchSums {
+        spread: spread,
+        adjustment: adjustment,
+    }
+}
+
+// F and its degrees of freedom, of k groups.
+fn welch_test(k: u32, sums: WelchSums) -> WelchTest
+    requires { ⌜ k ≤ 16 ⌝ }
+    ensures { λ r. ⌜ r ≡ welchTest k sums ⌝ }
+{
+    let df_between = base::minus(k, 1) as f64;
+    let f_numerator = sums.spread / df_between;
+    let k_squared_less_one = base::minus(k * k, 1) as f64;
+    let lambda = sums.adjustment * 3.0 / k_squared_less_one;
+    let f_stat = f_numerator / (1.0 + 2.0 * lambda * (base::minus(k, 2) as f64) / 3.0);
+    let df_within = k_squared_less_one / (3.0 * sums.adjustment);
+    WelchTest {
+        statistic: float::canon(f_stat),
+        df_between: df_between,
+        df_within: float::canon(df_within),
+    }
+}
+
 // Of the rows that s is the summary of.
 pub fn welch_anova(s: Summary) -> OneWayAnovaResult
     requires { ⌜ Lined s ⌝ }
     ensures { λ r. ⌜ ((rs : List Row) → s ≡ summaryOf rs → r ≡ welchAnova rs) ⌝ }
 {
     let k = s.n_groups;
-    let n = k as u32;
     let group_sizes = s.group_sizes;
     let group_means = s.group_means;
     let sq_devs = s.sq_devs;
     let w = weights(&group_sizes, &group_means, &sq_devs, k);
-    let sum_weights = sum_weighed(&group_sizes, &group_means, &w, k, Share::Weight);
-    let weighted_grand_mean = sum_weighed(&group_sizes, &group_means, &w, k, Share::Mean)
-        / sum_weights;
-    let df_between = base::minus(n, 1) as f64;
-    let f_numerator = sum_weighed(
-        &group_sizes,
-        &group_means,
-        &w,
-        k,
-        Share::Spread(weighted_grand_mean),
-    )
-        / df_between;
-    let adjustment = sum_weighed(&group_sizes, &group_means, &w, k, Share::Rest(sum_weights));
-    let k_squared_less_one = base::minus(n * n, 1) as f64;
-    let lambda = adjustment * 3.0 / k_squared_less_one;
-    let f_stat = f_numerator / (1.0 + 2.0 * lambda * (base::minus(n, 2) as f64) / 3.0);
-    let df_within = k_squared_less_one / (3.0 * adjustment);
+    let sums = welch_sums(&group_sizes, &group_means, &w, k);
+    let test = welch_test(k as u32, sums);
     OneWayAnovaResult {
         refusal: Refusal::none(),
-        statistic: float::canon(f_stat),
-        df_between: df_between,
-        df_within: float::canon(df_within),
+        statistic: test.statistic,
+        df_between: test.df_between,
+        df_within: test.df_within,
         has_ss: false,
         ss_between: 0.0,
         ss_within: 0.0,

@@ -4,10 +4,10 @@ use crate::lines::Out;
 
 pub fn view(out: &mut Out, at: usize, option: u32, sizes: &[u32], readings: &[f64]) -> usize {
     let g = option as usize;
-    let r = groups::group_refusal(readings, sizes, g);
+    let r = door::group_refusal(readings, sizes, g);
     if r.number != 0 {
         return lines::refused(out, at, r);
     }
-    let group = groups::group(readings, sizes, g);
+    let group = door::group(readings, sizes, g);
     lines::list(out, at, b"viewA@\n", [group.len() as u64; 3], group)
 }

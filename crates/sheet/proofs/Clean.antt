@@ -15,10 +15,10 @@ use Rattle.base.specs.Refusals.{refuse, none, when, _orElse_}
 use Rattle.base.proofs.Cuts.{length-cut, flatten-cut, cut-flatten, total-flatten}
 use Rattle.base.proofs.Order.{both-passed, no-fault}
 use Rattle.stats.specs.Sums.{hasNan}
-use Rattle.groups.specs.Checks.{sizesRefusal, groupFault, groupsRefusal, oneWayRefusal}
+use Rattle.door.specs.Checks.{sizesRefusal, groupFault, groupsRefusal, oneWayRefusal}
 use Rattle.groups.specs.Soundness.{someOutside}
 use Rattle.groups.proofs.Counted.{not-outside}
-use Rattle.groups.proofs.Doors.{passed, two-there}
+use Rattle.door.proofs.Doors.{passed, two-there}
 
 -- a NaN neither first nor behind
 apart : (x y : Bool) → cond x true y ≡ false → (x ≡ false) × (y ≡ false)

@@ -19,7 +19,7 @@ use Rattle.groups.specs.declared.Row.{Row}
 use Rattle.groups.specs.Rows.{rowOf, rowAnswer}
 use Rattle.groups.specs.Soundness.{sizesIn, Sound}
 use Rattle.groups.proofs.Counted.{unread, length-sizes, size-at}
-use Rattle.groups.proofs.Doors.{row-there}
+use Rattle.groups.proofs.Laid.{row-there}
 use Rattle.oneway.specs.Results.{Small}
 use Rattle.sheet.specs.declared.Sheet.{Sheet}
 use Rattle.sheet.specs.declared.Edit.{Edit}

@@ -19,7 +19,7 @@ use Rattle.base.proofs.Order.{passed-answer, told}
 use Rattle.float.specs.Words.{plusZero}
 use Rattle.stats.specs.Sums.{hasNan}
 use Rattle.groups.specs.declared.Row.{Row}
-use Rattle.groups.specs.Checks.{oneWayRefusal}
+use Rattle.door.specs.Checks.{oneWayRefusal}
 use Rattle.groups.specs.Rows.{rowOf, rowsOf, emptyRows}
 use Rattle.groups.specs.Soundness.{soundRefusal, Sound}
 use Rattle.groups.proofs.Counted.{sound-passes}

@@ -16,11 +16,11 @@ use Rattle.base.proofs.Cuts.{length-cut, flatten-cut}
 use Rattle.base.proofs.Order.{answers-refused, answers-numbers, passed-answer, refused-answer}
 use Rattle.groups.specs.declared.Row.{Row}
 use Rattle.groups.specs.declared.GroupStats.{GroupStats}
-use Rattle.groups.specs.Checks.{oneWayRefusal}
+use Rattle.door.specs.Checks.{oneWayRefusal}
 use Rattle.groups.specs.Rows.{rowsOf, emptyRows, groupStats, refusedStats, validateAnovaGroups}
 use Rattle.groups.specs.Soundness.{soundRefusal}
 use Rattle.groups.proofs.Counted.{sound}
-use Rattle.groups.proofs.Doors.{passed}
+use Rattle.door.proofs.Doors.{passed}
 use Rattle.oneway.specs.declared.AnovaKind.{AnovaKind}
 use Rattle.oneway.specs.declared.OneWayAnovaResult.{OneWayAnovaResult}
 use Rattle.oneway.specs.Results.{refusedResult}

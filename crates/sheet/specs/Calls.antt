@@ -10,7 +10,7 @@ use Rattle.base.specs.Limits.{mostReadings}
 use Rattle.base.specs.Lists.{total, cut}
 use Rattle.base.specs.Refusals.{refuse, none, when, _orElse_, guarded}
 use Rattle.groups.specs.declared.Row.{Row}
-use Rattle.groups.specs.Checks.{oneWayRefusal}
+use Rattle.door.specs.Checks.{oneWayRefusal}
 use Rattle.groups.specs.Soundness.{sizesIn, soundRefusal}
 use Rattle.oneway.specs.declared.AnovaKind.{AnovaKind}
 use Rattle.oneway.specs.declared.OneWayAnovaResult.{OneWayAnovaResult}

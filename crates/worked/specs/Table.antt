@@ -8,7 +8,7 @@ use lib.ListN.{replicate}
 use Rattle.base.specs.Refusals.{guarded}
 use Rattle.base.specs.Lists.{total, cut}
 use Rattle.stats.specs.Sums.{sumBy, hasNan}
-use Rattle.groups.specs.Checks.{sizesRefusal, groupFault, groupsRefusal, oneWayRefusal}
+use Rattle.door.specs.Checks.{sizesRefusal, groupFault, groupsRefusal, oneWayRefusal}
 use Rattle.oneway.specs.declared.AnovaKind.{AnovaKind}
 use Rattle.oneway.specs.declared.AnovaKind.the-variants.{Fisher, Welch}
 use Rattle.oneway.specs.declared.OneWayAnovaResult.{OneWayAnovaResult}

@@ -9,7 +9,8 @@ use Rattle.base.specs.Lists.{total, cut}
 use Rattle.base.proofs.Cuts.{total-turn}
 use Rattle.groups.specs.declared.Row.{Row}
 use Rattle.groups.specs.Rows.{rowsOf, emptyRows}
-use Rattle.groups.proofs.Walk.{fits-here, faults, fine-further, laying, row-turn, rows-done, rows-laid}
+use Rattle.door.proofs.Walk.{fits-here, faults, fine-further}
+use Rattle.groups.proofs.Laid.{laying, row-turn, rows-done, rows-laid}
 use Rattle.groups.proofs.rows_of.Statement.{statement}
 use Rattle.groups.proofs.rows_of.Tie as tie
 

@@ -4,7 +4,7 @@ use borrow.Author.Needs.{needs}
 use Rattle.base.proofs.Cuts.{length-cut}
 use Rattle.base.proofs.Order.{answers-refused, answers-numbers}
 use Rattle.groups.specs.Rows.{validateAnovaGroups}
-use Rattle.groups.proofs.Doors.{passed}
+use Rattle.door.proofs.Doors.{passed}
 use Rattle.groups.proofs.validate_anova_groups.Statement.{statement}
 use Rattle.groups.proofs.validate_anova_groups.Tie as tie
 

@@ -2,8 +2,8 @@
 use Prim.Native.Nat.{_-_}
 use borrow.Author.Needs.{needs}
 use Rattle.base.proofs.Order.{answers-refused, answers-numbers}
-use Rattle.groups.specs.Checks.{Passed}
-use Rattle.groups.proofs.Doors.{passed}
+use Rattle.door.specs.Checks.{Passed}
+use Rattle.door.proofs.Doors.{passed}
 use Rattle.oneway.specs.Anova.{anova, oneWayAnova}
 use Rattle.oneway.proofs.Summaries.{lined-groups}
 use Rattle.oneway.proofs.one_way_anova.Statement.{statement}

@@ -9,7 +9,7 @@ use Rattle.stats.specs.Figures.{meanRefusal, refusedFigure, meanAnswer}
 use Rattle.stats.specs.declared.Figure.{Figure}
 use Rattle.stats.proofs.Passed.{mean-passed}
 use Rattle.groups.specs.Rows.{rowAnswer, noRow}
-use Rattle.groups.proofs.Doors.{row-made}
+use Rattle.groups.proofs.Laid.{row-made}
 use Rattle.groups.proofs.Row.of.Statement.{statement}
 use Rattle.groups.proofs.Row.of.Tie as tie
 

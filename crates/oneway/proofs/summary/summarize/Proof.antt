@@ -7,7 +7,8 @@ use lib.ListN.{length, length-set}
 use lib.ListN.{drop, getD}
 use Rattle.base.specs.Lists.{total, cut, over}
 use Rattle.base.proofs.Cuts.{total-turn}
-use Rattle.groups.proofs.Walk.{fits-here, faults, fine-further, laying, row-turn, rows-done, rows-laid}
+use Rattle.door.proofs.Walk.{fits-here, faults, fine-further}
+use Rattle.groups.proofs.Laid.{laying, row-turn, rows-done, rows-laid}
 use Rattle.oneway.specs.Results.{sizeOf, rowMean, rowSqDev, noSizes, noMeans}
 use Rattle.oneway.proofs.Summaries.{column, summed}
 use Rattle.oneway.proofs.summary.summarize.Statement.{statement}

@@ -1,105 +1,51 @@
 -- `oneway::welch::welch_anova` meets its contract.
-use Prim.Native.Nat.{_-_}
-use mathlib.Core.Path.{_∙_, ap}
+use Prim.Native.Nat.{ℕ, _≤_, _<_, _-_, _+_, _*_}
+use mathlib.Core.Path.{_≡_, refl, sym, _∙_, ap}
 use native.Mathlib.Omega.{arith}
 use borrow.Author.Needs.{needs}
-use Rattle.base.proofs.Bounds.{product-le}
-use Rattle.oneway.specs.Results.{Long}
-use Rattle.oneway.specs.Welch.{shareOf, welchAnova}
-use Rattle.oneway.specs.declared.welch.Share.the-variants.{Weight, Mean, Spread, Rest}
-use Rattle.stats.specs.Sums.{sumBy}
-use Rattle.float.specs.Words.{_⊘_}
+use lib.ListN.{length, length-set}
 use Rattle.oneway.proofs.Summaries.{long-with, weighed-lines}
+use Rattle.oneway.specs.Welch.{welchAnova}
 use Rattle.oneway.proofs.welch.welch_anova.Statement.{statement}
 use Rattle.oneway.proofs.welch.welch_anova.Tie as tie
-
-cast-n : tie.Need-cast-n
-cast-n c = search needs
+use Rattle.oneway.proofs.welch.welch_anova.Reads as reads
+use Rattle.oneway.proofs.welch.welch_anova.Lts as lts
+use Rattle.base.proofs.Refusal.none.Reads as none-reads
+use Rattle.oneway.proofs.welch.weights.Reads as weights-reads
+use Rattle.oneway.proofs.welch.welch_sums.Reads as welch-sums-reads
+use Rattle.oneway.proofs.welch.welch_test.Reads as welch-test-reads
 
 weights-requires : tie.Need-weights-requires
 weights-requires c κs = search needs
 
--- the column of the weights has a line for each group too
-held : (c : tie.After-weights) → (let s = c .before .before .before .before .before .before .before .args .s in Long (s .«n_groups») (s .«group_sizes») (s .«group_means») (c .weights .result))
-held c = long-with (c .before .before .before .before .before .before .before .args .s) (c .weights .result) (c .weights .ensures) (c .before .before .before .before .before .before .before .pre)
+welch-sums-requires : tie.Need-welch-sums-requires
+welch-sums-requires c κs =
+    let w = c .before .before .before in
+    long-with (w .before .before .before .before .before .before .before .args .s) (w .weights .result) (w .weights .ensures) (w .before .before .before .before .before .before .before .pre)
 
-sum-weighed-requires : tie.Need-sum-weighed-requires
-sum-weighed-requires c κs = held (c .before .before .before)
+cast-welch-test : tie.Need-cast-welch-test
+cast-welch-test c = search needs
 
-sum-weighed-requires-2 : tie.Need-sum-weighed-requires-2
-sum-weighed-requires-2 c κs = held (c .before .before .before .before .before .before .before)
-
-minus-requires : tie.Need-minus-requires
-minus-requires c κs = search needs
-
-int-to-float-df-between : tie.Need-int-to-float-df-between
-int-to-float-df-between c = search needs
-
-sum-weighed-requires-3 : tie.Need-sum-weighed-requires-3
-sum-weighed-requires-3 c κs = held (c .before .before .before .before .before .before .before .before .before .before .before .before .before)
-
-sum-weighed-requires-4 : tie.Need-sum-weighed-requires-4
-sum-weighed-requires-4 c κs = held (c .before .before .before .before .before .before .before .before .before .before .before .before .before .before .before .before .before)
-
-mul-minus : tie.Need-mul-minus
-mul-minus c =
-    let few = c .before .before .before .before .before .before .before .before .before .before .before .before .before .before .before .before .before .before .before .before .before .before .before .before .before .pre .few in
-    omega (arith, product-le 16 16 few few)
-
-minus-requires-2 : tie.Need-minus-requires-2
-minus-requires-2 c κs = search needs
-
-int-to-float-k-squared-less-one : tie.Need-int-to-float-k-squared-less-one
-int-to-float-k-squared-less-one c = search needs
-
-minus-requires-3 : tie.Need-minus-requires-3
-minus-requires-3 c κs = search needs
-
-int-to-float-f-stat : tie.Need-int-to-float-f-stat
-int-to-float-f-stat c = search needs
+welch-test-requires : tie.Need-welch-test-requires
+welch-test-requires c κs = c .before .before .before .before .before .before .before .before .before .before .before .pre .few
 
 none-requires : tie.Need-none-requires
 none-requires c κs = search needs
 
-canon-requires : tie.Need-canon-requires
-canon-requires c κs = search needs
-
-canon-requires-2 : tie.Need-canon-requires-2
-canon-requires-2 c κs = search needs
-
 returns : tie.Need-returns
 unfolding welchAnova
 returns c rs e =
-    let rest = c .before .before .before .before .before .before .before in
-    let spread = rest .before .before .before .before in
-    let mean = spread .before .before .before .before .before .before in
-    let sum = mean .before .before .before .before in
-    let w = sum .before .before .before .before in
+    let w = c .before .before .before .before .before .before in
     let l = weighed-lines (w .before .before .before .before .before .before .before .args .s) (w .weights .result) (w .weights .ensures) rs e in
-    let a = sum .sum-weighed .ensures ∙ ap (sumBy (shareOf Weight)) l in
-    let m = mean .sum-weighed2 .ensures ∙ ap (sumBy (shareOf Mean)) l in
-    let f = spread .sum-weighed3 .ensures ∙ ap (sumBy (shareOf (Spread (mean .sum-weighed2 .result ⊘ sum .sum-weighed .result)))) l in
-    let r = rest .sum-weighed4 .ensures ∙ ap (sumBy (shareOf (Rest (sum .sum-weighed .result)))) l in
-    rw (c .canon2 .ensures, c .before .canon .ensures, c .before .before .none .ensures, c .before .before .before .before .minus3 .ensures, c .before .before .before .before .before .before .minus2 .ensures, r, f, spread .before .before .before .before .before .minus .ensures, m, a, e)
+    rw (c .none .ensures, c .before .welch-test .ensures, c .before .before .welch-sums .ensures, l, e)
 
 pub welch-anova-spec : {M : Type 1} → statement M
 welch-anova-spec =
     tie.close
     (tie.spec
-    cast-n
     weights-requires
-    sum-weighed-requires
-    sum-weighed-requires-2
-    minus-requires
-    int-to-float-df-between
-    sum-weighed-requires-3
-    sum-weighed-requires-4
-    mul-minus
-    minus-requires-2
-    int-to-float-k-squared-less-one
-    minus-requires-3
-    int-to-float-f-stat
+    welch-sums-requires
+    cast-welch-test
+    welch-test-requires
     none-requires
-    canon-requires
-    canon-requires-2
     returns)

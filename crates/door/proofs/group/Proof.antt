@@ -1,4 +1,4 @@
--- `groups::group` meets its contract.
+-- `door::group` meets its contract.
 use Prim.Native.Nat.{_-_}
 use mathlib.Core.Path.{sym, _∙_}
 use native.Mathlib.Omega.{arith}
@@ -6,11 +6,11 @@ use borrow.Author.Needs.{needs}
 use lib.ListN.{length-take}
 use lib.Seq.{length-take-le}
 use Rattle.base.proofs.Order.{refused-answer, passed-answer}
-use Rattle.groups.specs.Checks.{viewOf, noReadings}
-use Rattle.groups.proofs.Doors.{Viewed, viewed}
-use Rattle.groups.proofs.Walk.{view-here}
-use Rattle.groups.proofs.group.Statement.{statement}
-use Rattle.groups.proofs.group.Tie as tie
+use Rattle.door.specs.Checks.{viewOf, noReadings}
+use Rattle.door.proofs.Doors.{Viewed, viewed}
+use Rattle.door.proofs.Walk.{view-here}
+use Rattle.door.proofs.group.Statement.{statement}
+use Rattle.door.proofs.group.Tie as tie
 
 -- what the checks leave known
 known : (c : tie.Else1) → (let a = c .before .before .before .before .before .args in Viewed (a .readings .now) (a .sizes .now) (a .g))

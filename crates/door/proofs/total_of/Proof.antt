@@ -1,4 +1,4 @@
--- `groups::total_of` meets its contract.
+-- `door::total_of` meets its contract.
 use Prim.Native.Nat.{_≤_, _-_, _+_, _*_}
 use mathlib.Core.Path.{_≡_}
 use native.Mathlib.Omega.{arith}
@@ -7,8 +7,8 @@ use lib.ListN.{length}
 use lib.ListN.{drop}
 use Rattle.base.specs.Lists.{total}
 use Rattle.base.proofs.Cuts.{total-turn, total-done}
-use Rattle.groups.proofs.total_of.Statement.{statement}
-use Rattle.groups.proofs.total_of.Tie as tie
+use Rattle.door.proofs.total_of.Statement.{statement}
+use Rattle.door.proofs.total_of.Tie as tie
 
 abbrev Inv-loop : tie.InvT-loop
 Inv-loop sizes t₀ g₀ t g = (g ≤ length sizes) × (t ≤ g * 4294967295) × (t + total (drop g sizes) ≡ total sizes)

@@ -1,21 +1,18 @@
 -- What the checks leave known where they are passed.
-use mathlib.Core.Path.{_≡_, refl, sym, ap, _∙_}
-use mathlib.Core.List.{List, []}
+use mathlib.Core.Path.{_≡_, refl}
+use mathlib.Core.List.{List}
 use Prim.Native.Nat.{ℕ, _+_, _<_, _≤_}
 use native.Mathlib.Omega.{arith}
-use borrow.Author.Tests.{ltb-false, leb-false, eqb-true, eqb-false, le-ltb, ne-eqb}
+use borrow.Author.Tests.{ltb-false, leb-false, eqb-true, eqb-false}
 use lib.Dec.{ltb, leb, eqb}
 use lib.Ieee.{Float}
 use lib.ListN.{length, take, drop, getD}
 use Rattle.base.specs.Lists.{total, cut}
-use Rattle.base.specs.Refusals.{refuse, when, unless, _orElse_, guarded}
-use Rattle.base.proofs.Order.{both-passed, no-fault, needed-there, passed-answer}
+use Rattle.base.specs.Refusals.{refuse, when, unless, _orElse_}
+use Rattle.base.proofs.Order.{both-passed, no-fault, needed-there}
 use Rattle.base.proofs.Cuts.{total-split, total-turn}
-use Rattle.stats.specs.declared.Figure.{Figure}
-use Rattle.stats.specs.Figures.{meanRefusal, meanAnswer, refusedFigure}
-use Rattle.stats.specs.Sums.{hasNan, meanOf, sqDev}
-use Rattle.groups.specs.Checks.{Sized, Passed, sizesRefusal, groupFault, groupsRefusal, oneWayRefusal, viewRefusal}
-use Rattle.groups.specs.Rows.{rowOf, rowAnswer, noRow}
+use Rattle.stats.specs.Sums.{hasNan}
+use Rattle.door.specs.Checks.{Sized, Passed, sizesRefusal, groupFault, groupsRefusal, oneWayRefusal, viewRefusal}
 
 pub sized : (xs : List Float) (ns : List ℕ) → sizesRefusal xs ns .number ≡ 0 → Sized xs ns
 unfolding sizesRefusal
@@ -59,16 +56,3 @@ unfolding groupFault
 two-there k group h =
     let p = both-passed (when (ltb (length group) 2) (refuse 2 2 (length group))) (when (hasNan group) (refuse 4 k 0)) h in
     ltb-false (length group) 2 (no-fault (ltb (length group) 2) (refuse 2 2 (length group)) (eqb-false 2 0 refl) (p .0))
-
--- so its row is worked out
-pub row-there : (group : List Float) → 1 ≤ length group → length group ≤ 512 → rowAnswer group ≡ rowOf group
-unfolding rowAnswer guarded meanRefusal
-row-there group l u = rw (le-ltb 512 (length group) u, ne-eqb (length group) 0 (λ e. omega arith))
-
--- the row from what its calls answer, where the mean is not refused
-pub row-made : (group : List Float) (m : Figure) (d : Float) → meanRefusal (length group) .number ≡ 0 → m ≡ meanAnswer group → d ≡ sqDev (m .value) group
-    → record { size = length group; mean = m .value; «sq_dev» = d } ≡ rowAnswer group
-unfolding meanAnswer rowAnswer
-row-made group m d z e q =
-    let v : m .value ≡ meanOf group = ap (λ (f : Figure). f .value) (e ∙ passed-answer (meanRefusal (length group)) refusedFigure _ z) in
-    rw (q, v) (sym (passed-answer (meanRefusal (length group)) noRow (rowOf group) z))

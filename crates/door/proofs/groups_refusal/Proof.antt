@@ -1,4 +1,4 @@
--- `groups::groups_refusal` meets its contract.
+-- `door::groups_refusal` meets its contract.
 use Prim.Native.Nat.{_≤_, _-_, _+_}
 use mathlib.Core.Path.{_≡_, sym, _∙_}
 use native.Mathlib.Omega.{arith}
@@ -7,10 +7,10 @@ use lib.ListN.{length}
 use lib.ListN.{drop, getD}
 use Rattle.base.specs.Lists.{total, cut}
 use Rattle.base.proofs.Cuts.{total-turn}
-use Rattle.groups.specs.Checks.{groupsRefusal}
-use Rattle.groups.proofs.Walk.{fits-here, no-nan-here, faults, fault-here, fault-further, fault-nowhere}
-use Rattle.groups.proofs.groups_refusal.Statement.{statement}
-use Rattle.groups.proofs.groups_refusal.Tie as tie
+use Rattle.door.specs.Checks.{groupsRefusal}
+use Rattle.door.proofs.Walk.{fits-here, no-nan-here, faults, fault-here, fault-further, fault-nowhere}
+use Rattle.door.proofs.groups_refusal.Statement.{statement}
+use Rattle.door.proofs.groups_refusal.Tie as tie
 
 abbrev Inv-loop : tie.InvT-loop
 Inv-loop readings sizes nans at₀ g₀ at g = (g ≤ length sizes) × (at + total (drop g sizes) ≡ length readings) × (faults readings sizes g at ≡ groupsRefusal 1 (cut sizes readings))

@@ -1,11 +1,11 @@
--- `groups::group_refusal` meets its contract.
+-- `door::group_refusal` meets its contract.
 use Prim.Native.Nat.{_-_}
 use borrow.Author.Needs.{needs}
 use borrow.Author.Tests.{le-leb, lt-leb}
 use Rattle.base.proofs.Order.{stops, goes-on}
-use Rattle.groups.specs.Checks.{viewRefusal}
-use Rattle.groups.proofs.group_refusal.Statement.{statement}
-use Rattle.groups.proofs.group_refusal.Tie as tie
+use Rattle.door.specs.Checks.{viewRefusal}
+use Rattle.door.proofs.group_refusal.Statement.{statement}
+use Rattle.door.proofs.group_refusal.Tie as tie
 
 sizes-refusal-requires : tie.Need-sizes-refusal-requires
 sizes-refusal-requires c κs = search needs

@@ -1,11 +1,11 @@
--- `groups::group_fault` meets its contract.
+-- `door::group_fault` meets its contract.
 use Prim.Native.Nat.{_-_}
 use mathlib.Core.Path.{sym, _∙_}
 use borrow.Author.Needs.{needs}
 use borrow.Author.Tests.{lt-ltb, le-ltb, not-true}
-use Rattle.groups.specs.Checks.{groupFault}
-use Rattle.groups.proofs.group_fault.Statement.{statement}
-use Rattle.groups.proofs.group_fault.Tie as tie
+use Rattle.door.specs.Checks.{groupFault}
+use Rattle.door.proofs.group_fault.Statement.{statement}
+use Rattle.door.proofs.group_fault.Tie as tie
 
 new-requires : tie.Need-new-requires
 new-requires c κs = search needs

@@ -8,7 +8,6 @@ use native.Mathlib.Numerals.{add-one}
 use native.Mathlib.Omega.{arith}
 use lib.Ieee.{Float}
 use lib.ListN.{length, take, drop, getD, set, length-map}
-use lib.Seq.{sets, sets-eq}
 use Rattle.base.specs.declared.Refusal.{Refusal}
 use Rattle.base.specs.Lists.{total, cut, over}
 use Rattle.base.specs.Refusals.{none, _orElse_}
@@ -17,14 +16,7 @@ use Rattle.base.proofs.Cuts.{cut-turn, cut-done, cut-at, length-cut, total-turn
 use Rattle.base.proofs.Parts.{length-part}
 use Rattle.stats.specs.Sums.{hasNan}
 use Rattle.stats.proofs.Adding.{no-nan-within}
-use Rattle.groups.specs.declared.Row.{Row}
-use Rattle.groups.specs.Checks.{groupFault, groupsRefusal, Passed}
-use Rattle.groups.specs.Rows.{rowOf, rowAnswer, rowsOf, emptyRows}
-use Rattle.groups.proofs.Doors.{two-there, row-there}
-
--- f of the row of each group from g on, put in the places of `out` from g on
-abbrev pub laying : {B : Type 0} → List Float → List ℕ → ℕ → ℕ → (Row → B) → List B → List B
-laying xs ns g at f out = sets out g (map (λ (x : List Float). f (rowOf x)) (cut (drop g ns) (drop at xs)))
+use Rattle.door.specs.Checks.{groupFault, groupsRefusal}
 
 module _ (xs : List Float) (ns : List ℕ) (g at : ℕ) where
   -- the readings of group g, as the code takes them
@@ -58,30 +50,13 @@ module _ (xs : List Float) (ns : List ℕ) (g at : ℕ) where
   unfolding groupsRefusal
   fault-nowhere h = rw (cut-done ns xs at g h)
 
-  -- where there is none, this group has its row, and there is none further on
+  -- where there is none, this group has no fault, and there is none further on
   module _ (h : g < length ns) (room : at + total (drop g ns) ≡ length xs) (small : length xs ≤ 512) (fine : faults .number ≡ 0) where
-    fine-here : (groupFault (g + 1) here .number ≡ 0) × (groupsRefusal (g + 1 + 1) (cut (drop (g + 1) ns) (drop (at + getD ns g 0) xs)) .number ≡ 0)
+    pub fine-here : (groupFault (g + 1) here .number ≡ 0) × (groupsRefusal (g + 1 + 1) (cut (drop (g + 1) ns) (drop (at + getD ns g 0) xs)) .number ≡ 0)
     fine-here = both-passed (groupFault (g + 1) here) _ (rw (turned h) at fine)
 
     pub fine-further : groupsRefusal (g + 1 + 1) (cut (drop (g + 1) ns) (drop (at + getD ns g 0) xs)) .number ≡ 0
     fine-further = fine-here .1
-
-    pub row-here : rowAnswer here ≡ rowOf here
-    row-here =
-        let two = two-there (g + 1) here (fine-here .0) in
-        let all = length-part at (getD ns g 0) xs (fits-here h room) in
-        row-there here (omega arith) (omega (arith, fits-here h room))
-
-    -- one group more is put in its place
-    pub row-turn : {B : Type 0} (f : Row → B) (out : List B) (r : Row) → r ≡ rowAnswer here
-        → laying xs ns (g + 1) (at + getD ns g 0) f (set out g (f r)) ≡ laying xs ns g at f out
-    row-turn f out r e = rw (cut-turn ns xs at g h, e, row-here, add-one)
-
-  pub rows-done : {B : Type 0} (f : Row → B) (out : List B) → length ns ≤ g → laying xs ns g at f out ≡ out
-  rows-done f out h = rw (cut-done ns xs at g h)
-
-pub rows-laid : {B : Type 0} (f : Row → B) (xs : List Float) (ns : List ℕ) (out : List B) → length ns ≤ length out → laying xs ns 0 0 f out ≡ over (map (λ (x : List Float). f (rowOf x)) (cut ns xs)) out
-rows-laid f xs ns out h = sets-eq (map (λ (x : List Float). f (rowOf x)) (cut ns xs)) out 0 (rw (zero-add, length-map, length-cut) h) ∙ rw zero-add
 
 -- the view's part is the group
 pub view-here : (xs : List Float) (ns : List ℕ) (g : ℕ) → g < length ns → here xs ns g (total (take g ns)) ≡ getD (cut ns xs) g []

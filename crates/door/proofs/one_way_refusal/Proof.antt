@@ -1,12 +1,12 @@
--- `groups::one_way_refusal` meets its contract.
+-- `door::one_way_refusal` meets its contract.
 use Prim.Native.Nat.{_-_}
 use borrow.Author.Needs.{needs}
 use borrow.Author.Tests.{lt-ltb, le-ltb}
 use Rattle.base.proofs.Order.{stops, goes-on}
-use Rattle.groups.specs.Checks.{oneWayRefusal}
-use Rattle.groups.proofs.Doors.{sized}
-use Rattle.groups.proofs.one_way_refusal.Statement.{statement}
-use Rattle.groups.proofs.one_way_refusal.Tie as tie
+use Rattle.door.specs.Checks.{oneWayRefusal}
+use Rattle.door.proofs.Doors.{sized}
+use Rattle.door.proofs.one_way_refusal.Statement.{statement}
+use Rattle.door.proofs.one_way_refusal.Tie as tie
 
 sizes-refusal-requires : tie.Need-sizes-refusal-requires
 sizes-refusal-requires c κs = search needs

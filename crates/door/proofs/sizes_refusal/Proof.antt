@@ -1,10 +1,10 @@
--- `groups::sizes_refusal` meets its contract.
+-- `door::sizes_refusal` meets its contract.
 use Prim.Native.Nat.{_-_}
 use borrow.Author.Needs.{needs}
 use borrow.Author.Tests.{lt-ltb, le-ltb, eq-eqb, ne-eqb}
-use Rattle.groups.specs.Checks.{sizesRefusal}
-use Rattle.groups.proofs.sizes_refusal.Statement.{statement}
-use Rattle.groups.proofs.sizes_refusal.Tie as tie
+use Rattle.door.specs.Checks.{sizesRefusal}
+use Rattle.door.proofs.sizes_refusal.Statement.{statement}
+use Rattle.door.proofs.sizes_refusal.Tie as tie
 
 new-requires : tie.Need-new-requires
 new-requires c κs = search needs

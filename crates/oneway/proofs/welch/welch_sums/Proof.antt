@@ -1,0 +1,36 @@
+-- `oneway::welch::welch_sums` meets its contract.
+use Prim.Native.Nat.{ℕ, _≤_, _<_, _-_, _+_, _*_}
+use mathlib.Core.Path.{_≡_, refl, sym, _∙_, ap}
+use native.Mathlib.Omega.{arith}
+use borrow.Author.Needs.{needs}
+use lib.ListN.{length, length-set}
+use Rattle.oneway.proofs.welch.welch_sums.Statement.{statement}
+use Rattle.oneway.proofs.welch.welch_sums.Tie as tie
+use Rattle.oneway.proofs.welch.welch_sums.Reads as reads
+use Rattle.oneway.proofs.welch.welch_sums.Lts as lts
+use Rattle.oneway.proofs.welch.sum_weighed.Reads as sum-weighed-reads
+
+sum-weighed-requires : tie.Need-sum-weighed-requires
+sum-weighed-requires c κs = search needs
+
+sum-weighed-requires-2 : tie.Need-sum-weighed-requires-2
+sum-weighed-requires-2 c κs = search needs
+
+sum-weighed-requires-3 : tie.Need-sum-weighed-requires-3
+sum-weighed-requires-3 c κs = search needs
+
+sum-weighed-requires-4 : tie.Need-sum-weighed-requires-4
+sum-weighed-requires-4 c κs = search needs
+
+returns : tie.Need-returns
+returns c = rw (c .sum-weighed4 .ensures, c .before .sum-weighed3 .ensures, c .before .before .sum-weighed2 .ensures, c .before .before .before .sum-weighed .ensures)
+
+pub welch-sums-spec : {M : Type 1} → statement M
+welch-sums-spec =
+    tie.close
+    (tie.spec
+    sum-weighed-requires
+    sum-weighed-requires-2
+    sum-weighed-requires-3
+    sum-weighed-requires-4
+    returns)

@@ -1,0 +1,58 @@
+-- `oneway::welch::welch_test` meets its contract.
+use Prim.Native.Nat.{ℕ, _≤_, _<_, _-_, _+_, _*_}
+use mathlib.Core.Path.{_≡_, refl, sym, _∙_, ap}
+use native.Mathlib.Omega.{arith}
+use borrow.Author.Needs.{needs}
+use lib.ListN.{length, length-set}
+use Rattle.base.proofs.Bounds.{product-le}
+use Rattle.oneway.proofs.welch.welch_test.Statement.{statement}
+use Rattle.oneway.proofs.welch.welch_test.Tie as tie
+use Rattle.oneway.proofs.welch.welch_test.Reads as reads
+use Rattle.oneway.proofs.welch.welch_test.Lts as lts
+use Rattle.base.proofs.minus.Reads as minus-reads
+use Rattle.float.proofs.canon.Reads as canon-reads
+
+minus-requires : tie.Need-minus-requires
+minus-requires c κs = search needs
+
+int-to-float-df-between : tie.Need-int-to-float-df-between
+int-to-float-df-between c = search needs
+
+mul-minus : tie.Need-mul-minus
+mul-minus c = omega (arith, product-le 16 16 (c .before .before .before .pre) (c .before .before .before .pre))
+
+minus-requires-2 : tie.Need-minus-requires-2
+minus-requires-2 c κs = search needs
+
+int-to-float-k-squared-less-one : tie.Need-int-to-float-k-squared-less-one
+int-to-float-k-squared-less-one c = search needs
+
+minus-requires-3 : tie.Need-minus-requires-3
+minus-requires-3 c κs = search needs
+
+int-to-float-f-stat : tie.Need-int-to-float-f-stat
+int-to-float-f-stat c = search needs
+
+canon-requires : tie.Need-canon-requires
+canon-requires c κs = search needs
+
+canon-requires-2 : tie.Need-canon-requires-2
+canon-requires-2 c κs = search needs
+
+returns : tie.Need-returns
+returns c = rw (c .canon2 .ensures, c .before .canon .ensures, c .before .before .before .before .minus3 .ensures, c .before .before .before .before .before .before .before .minus2 .ensures, c .before .before .before .before .before .before .before .before .before .before .minus .ensures)
+
+pub welch-test-spec : {M : Type 1} → statement M
+welch-test-spec =
+    tie.close
+    (tie.spec
+    minus-requires
+    int-to-float-df-between
+    mul-minus
+    minus-requires-2
+    int-to-float-k-squared-less-one
+    minus-requires-3
+    int-to-float-f-stat
+    canon-requires
+    canon-requires-2
+    returns)
