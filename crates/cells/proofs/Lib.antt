@@ -1,0 +1,10 @@
+pub mod Codes
+pub mod Keys
+pub mod Tallies
+pub mod Starts
+pub mod Sorts
+pub mod Empties
+pub mod Laying
+pub mod Doors
+pub mod Answers
+pub mod Designs

@@ -1,0 +1,5 @@
+pub mod Cells
+pub mod Checks
+pub mod Organized
+pub mod Sorting
+mod Worked

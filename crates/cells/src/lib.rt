@@ -1,0 +1,46 @@
+// Two-way data: the checks at the door, and the readings sorted into the cells of two factors.
+mod door;
+mod sort;
+mod tally;
+
+use base::Refusal;
+ghost use mathlib.Core.Path.{_≡_};
+ghost use Rattle.cells.specs.Checks.{twoWayRefusal};
+ghost use Rattle.cells.specs.Organized.{organizeTwoWayData};
+
+// The design of readings that passed the checks, or a refusal. The cell (i, j) stands at place i * levels_b + j of cell_n.
+pub struct TwoWayData {
+    pub refusal: Refusal,
+    pub levels_a: usize,
+    pub levels_b: usize,
+    pub n_total: usize,
+    pub cell_n: [usize; 36],
+}
+
+// The two-way checks, in document 01's order; `lent` is how many places of scratch the caller lends.
+pub fn two_way_refusal(values: &[f64], factor_a: &[u32], factor_b: &[u32], lent: usize) -> Refusal
+    ensures { λ r. ⌜ r ≡ twoWayRefusal (now (values .entry)) (now («factor_a» .entry)) (now («factor_b» .entry)) lent ⌝ }
+{
+    let d = door::checked(values, factor_a, factor_b, lent);
+    d.refusal
+}
+
+// The readings cell by cell in the first places of the scratch, by A, then B, and in input order within a cell; and how many each cell has.
+pub fn organize_two_way_data(
+    values: &[f64],
+    factor_a: &[u32],
+    factor_b: &[u32],
+    scratch: &mut [f64],
+) -> TwoWayData
+    ensures { λ r. ⌜ (now (scratch .exit), r) ≡ organizeTwoWayData (now (values .entry)) (now («factor_a» .entry)) (now («factor_b» .entry)) (now (scratch .entry)) ⌝ }
+{
+    let d = door::checked(values, factor_a, factor_b, scratch.len());
+    let refusal = d.refusal;
+    if refusal.number != 0 {
+        return d;
+    }
+    let levels_b = d.levels_b;
+    let counts = d.cell_n;
+    sort::lay(values, factor_a, factor_b, levels_b, &counts, scratch);
+    d
+}

@@ -1,0 +1,10 @@
+pub mod Walks
+pub mod Places
+pub mod Candidates
+pub mod Largest
+pub mod Columns
+pub mod Calls
+pub mod Lengths
+pub mod Skipped
+pub mod Untouched
+pub mod Zeros

@@ -1,0 +1,23 @@
+-- Different places of a flat matrix: of another row, or of another column.
+use Prim.Native.Nat.{ℕ, _+_, _*_, _<_}
+use mathlib.Core.Path.{_≡_, refl}
+use mathlib.Core.Bool.{Bool, true, false}
+use native.Mathlib.Omega.{arith}
+use native.Mathlib.Nat.{mul-le-mul-right}
+use borrow.Author.Tests.{ltb-true, ltb-false}
+use lib.Dec.{ltb}
+use Rattle.base.proofs.Bounds.{row-end}
+
+pub other-row : (a b w x y : ℕ) → a < b → x < w → a * w + x ≡ b * w + y → ⊥
+other-row a b w x y h k e =
+    let r = row-end a b w {len = b * w} h (omega arith) in
+    omega (arith, r)
+
+pub other-column : (a b w x y : ℕ) → y < x → x < w → a * w + x ≡ b * w + y → ⊥
+other-column a b w x y h k e = go (ltb a b) refl
+  where
+    go : (t : Bool) → ltb a b ≡ t → ⊥
+    go true q = other-row a b w x y (ltb-true a b q) k e
+    go false q =
+        let r = mul-le-mul-right w (ltb-false a b q) in
+        omega (arith, r)

@@ -1,0 +1,36 @@
+-- Two laws of the counting loop beside base's: its last turn, and what holds at each turn where that depends on the turn.
+use Prim.Native.Nat.{ℕ, zero, suc, _+_, _-_, _<_, _≤_}
+use mathlib.Core.Path.{_≡_, _∙_}
+use native.Mathlib.Omega.{arith}
+use Rattle.base.specs.Loop.{loop, turns}
+
+module _ {S : Type 0} (f : ℕ → S → S) where
+  turns-last : (k i : ℕ) (s : S) → turns i (suc k) f s ≡ f (i + k) (turns i k f s)
+  unfolding turns
+  turns-last zero i s = rw (add-zero i)
+    where
+      add-zero : (i : ℕ) → i + 0 ≡ i
+      add-zero i = omega arith
+  turns-last (suc k) i s = turns-last k (i + 1) (f i s) ∙ rw (moved i k)
+    where
+      moved : (i k : ℕ) → i + 1 + k ≡ i + suc k
+      moved i k = omega arith
+
+  pub last-turn : (n : ℕ) (s : S) → loop 0 (n + 1) f s ≡ f n (loop 0 n f s)
+  unfolding loop
+  last-turn n s =
+      let a : n + 1 - 0 ≡ suc n = omega arith in
+      let b : n - 0 ≡ n = omega arith in
+      let z : 0 + n ≡ n = omega arith in
+      rw (a, b, turns-last n 0 s, z)
+
+  -- P j s: what is known of the state s before turn j
+  module _ (P : ℕ → S → Type 0) (n : ℕ) (each : (j : ℕ) (s : S) → j < n → P j s → P (j + 1) (f j s)) where
+    turns-walk : (r j : ℕ) (s : S) → j + r ≡ n → P j s → P n (turns j r f s)
+    unfolding turns
+    turns-walk zero j s e p = let q : j ≡ n = omega arith in rw (← q) p
+    turns-walk (suc r) j s e p = turns-walk r (j + 1) (f j s) (omega arith) (each j s (omega arith) p)
+
+    pub walks : (j : ℕ) (s : S) → j ≤ n → P j s → P n (loop j n f s)
+    unfolding loop
+    walks j s h p = turns-walk (n - j) j s (omega arith) p
