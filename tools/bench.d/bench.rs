@@ -55,13 +55,22 @@ impl Bench {
         }
     }
 
-    pub fn line<A, B>(&mut self, name: &str, mut ours: impl FnMut() -> A, mut rust: impl FnMut() -> B) {
+    pub fn times(&self) -> bool {
+        matches!(self.task, Task::Time)
+    }
+
+    pub fn line<A, B>(&mut self, name: &str, ours: impl FnMut() -> A, rust: impl FnMut() -> B) {
+        self.line_of(name, 1, ours, rust);
+    }
+
+    /// A line whose calls do the same thing so many times each: what is told is one of them.
+    pub fn line_of<A, B>(&mut self, name: &str, times: u64, mut ours: impl FnMut() -> A, mut rust: impl FnMut() -> B) {
         match &self.task {
             Task::Run { line, ours: is_ours, calls } => {
                 if line == name && *is_ours {
-                    batch(*calls, &mut ours);
+                    batch(*calls / times, &mut ours);
                 } else if line == name {
-                    batch(*calls, &mut rust);
+                    batch(*calls / times, &mut rust);
                 }
             }
             _ if !self.words.is_empty() && !self.words.iter().any(|w| name.contains(w.as_str())) => {}
@@ -82,7 +91,8 @@ impl Bench {
                 }
                 o.sort_by(f64::total_cmp);
                 r.sort_by(f64::total_cmp);
-                let (ol, om, rl, rm) = (o[0], o[BATCHES / 2], r[0], r[BATCHES / 2]);
+                let one = |ns: f64| ns / times as f64;
+                let (ol, om, rl, rm) = (one(o[0]), one(o[BATCHES / 2]), one(r[0]), one(r[BATCHES / 2]));
                 println!(
                     "{name:22} {ol:10.1} {om:10.1} {rl:10.1} {rm:10.1} {:8.2} {:8.2}",
                     ol / rl,

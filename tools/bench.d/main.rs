@@ -8,9 +8,11 @@ mod inputs;
 mod oneway;
 mod ours;
 mod root;
+mod sheet;
 
 fn main() {
     let mut bench = bench::Bench::from_args();
     oneway::lines(&mut bench);
     root::lines(&mut bench);
+    sheet::lines(&mut bench);
 }

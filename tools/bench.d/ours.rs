@@ -20,6 +20,30 @@ mod c {
             places: usize,
         ) -> u32;
         pub fn speed_sqrt(x: f64) -> f64;
+        pub fn speed_history_fisher(
+            readings: *const f64,
+            n: usize,
+            sizes: *const u32,
+            k: usize,
+            edits: *const u32,
+            numbers: usize,
+            fresh: *const f64,
+            new: usize,
+            out: *mut f64,
+            places: usize,
+        ) -> u32;
+        pub fn speed_history_welch(
+            readings: *const f64,
+            n: usize,
+            sizes: *const u32,
+            k: usize,
+            edits: *const u32,
+            numbers: usize,
+            fresh: *const f64,
+            new: usize,
+            out: *mut f64,
+            places: usize,
+        ) -> u32;
     }
 }
 
@@ -57,4 +81,40 @@ pub fn welch(readings: &[f64], sizes: &[u32], out: &mut [f64]) -> u32 {
 #[inline]
 pub fn sqrt(x: f64) -> f64 {
     unsafe { c::speed_sqrt(x) }
+}
+
+#[inline]
+pub fn history_fisher(readings: &[f64], sizes: &[u32], edits: &[u32], fresh: &[f64], out: &mut [f64]) -> u32 {
+    unsafe {
+        c::speed_history_fisher(
+            readings.as_ptr(),
+            readings.len(),
+            sizes.as_ptr(),
+            sizes.len(),
+            edits.as_ptr(),
+            edits.len(),
+            fresh.as_ptr(),
+            fresh.len(),
+            out.as_mut_ptr(),
+            out.len(),
+        )
+    }
+}
+
+#[inline]
+pub fn history_welch(readings: &[f64], sizes: &[u32], edits: &[u32], fresh: &[f64], out: &mut [f64]) -> u32 {
+    unsafe {
+        c::speed_history_welch(
+            readings.as_ptr(),
+            readings.len(),
+            sizes.as_ptr(),
+            sizes.len(),
+            edits.as_ptr(),
+            edits.len(),
+            fresh.as_ptr(),
+            fresh.len(),
+            out.as_mut_ptr(),
+            out.len(),
+        )
+    }
 }

@@ -1,7 +1,7 @@
 // A case: its head, and the lists behind it.
 ghost use mathlib.Core.Path.{_≡_};
 use crate::kinds;
-use crate::lines::Out;
+use lines::Out;
 ghost use Prim.Native.Nat.{_+_, _*_, _<_, _≤_};
 ghost use lib.ListN.{length};
 ghost use Rattle.replay.specs.Heads.{Small};
@@ -66,20 +66,30 @@ fn bare(sound: bool) -> Head
     }
 }
 
-// Answers the case at the front of these bytes: its lines go into out from `at` on, and the place behind them is the result. No kind uses the
-// codes of A and B yet: they stand behind the sizes.
+// Answers the case at the front of these bytes: its lines go into out from `at` on, and the place behind them is the result.
 pub fn answer(out: &mut Out, at: usize, bytes: &[u8], h: Head) -> usize
     requires { ⌜ Small h × (h .length ≤ length (now bytes)) ⌝ }
 {
     let ns = h.ns;
     let nr = h.nr;
-    let n = ns + h.na + h.nb;
-    let codes = codes(bytes, n);
+    let to_a = ns + h.na;
+    let n = to_a + h.nb;
+    let list = codes(bytes, n);
+    let codes: &[u32] = &list;
     let readings = readings(bytes, HEAD + 4 * n, nr);
-    kinds::answer(out, at, h.kind, h.option, &codes[..ns], &readings[..nr])
+    kinds::answer(
+        out,
+        at,
+        h.kind,
+        h.option,
+        &codes[..ns],
+        &codes[ns..to_a],
+        &codes[to_a..n],
+        &readings[..nr],
+    )
 }
 
-// The n whole numbers behind the head, and zeros behind them.
+// The n whole numbers behind the head, which are the sizes, the codes of A and the codes of B, and zeros behind them.
 fn codes(bytes: &[u8], n: usize) -> [u32; 1800]
     requires { ⌜ (n ≤ 1800) × (24 + 4 * n ≤ length (now bytes)) ⌝ }
     ensures { λ r. ⌜ length r ≡ 1800 ⌝ }

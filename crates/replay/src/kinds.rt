@@ -1,12 +1,11 @@
-// Which analysis a kind asks for. A new kind is a line here, and a function that works it out and puts its lines.
-use crate::figures;
-use crate::lines;
-use crate::lines::Out;
-use crate::one_way;
-use crate::roots;
-use crate::views;
-ghost use Prim.Native.Nat.{_≤_};
-ghost use lib.ListN.{length};
+// Which analysis a kind asks for. A new kind is a line here, and a function that works it out and puts its lines. It may use the option, the
+// sizes, the codes of both factors, and the readings.
+use answers::figures;
+use answers::one_way;
+use answers::roots;
+use answers::sheets;
+use answers::views;
+use lines::Out;
 
 pub fn answer(
     out: &mut Out,
@@ -14,10 +13,10 @@ pub fn answer(
     kind: u32,
     option: u32,
     sizes: &[u32],
+    a: &[u32],
+    b: &[u32],
     readings: &[f64],
-) -> usize
-    requires { ⌜ length (now readings) ≤ 600 ⌝ }
-{
+) -> usize {
     match kind {
         1 => figures::mean(out, at, readings),
         2 => figures::variance(out, at, readings),
@@ -25,6 +24,7 @@ pub fn answer(
         4 => one_way::welch(out, at, sizes, readings),
         8 => roots::roots(out, at, readings),
         9 => views::view(out, at, option, sizes, readings),
+        10 => sheets::sheet(out, at, option, sizes, a, readings),
         17 => roots::power(out, at, option, readings),
         _ => lines::words(out, at, b"unknown kind\n"),
     }

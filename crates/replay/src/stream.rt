@@ -1,12 +1,12 @@
 // The stream: blocks of the input into a buffer, cases out of it, and answers into a second buffer, which is written when it is half full.
 use crate::cases;
-use crate::lines;
-use crate::lines::Out;
+use lines::Out;
 ghost use Prim.Native.Nat.{_+_, _≤_};
 ghost use lib.ListN.{length};
 ghost use Rattle.replay.specs.Streams.{Inside};
 
-// How much of the answers' buffer may be used before it is written. Every answer fits into the other half.
+// How much of the answers' buffer may be used before it is written. Every answer fits into the other half: the longest is that of a sheet, with 200 edits of three
+// numbers, 512 places, 16 rows and two reports, and stays below 25,000 bytes.
 const HALF: usize = 32768;
 
 // The buffer's bytes from..to are read and not yet answered; the first `at` bytes of the other buffer are answers not yet written.

@@ -6,14 +6,17 @@ use lib.ListN.{length-take}
 use Rattle.replay.proofs.cases.answer.Statement.{statement}
 use Rattle.replay.proofs.cases.answer.Tie as tie
 
+add-to-a : tie.Need-add-to-a
+add-to-a c = omega arith
+
 add-n : tie.Need-add-n
 add-n c = omega arith
 
-add-n-2 : tie.Need-add-n-2
-add-n-2 c = omega arith
-
 codes-requires : tie.Need-codes-requires
 codes-requires c κs = search needs
+
+slice-aggregate-codes : tie.Need-slice-aggregate-codes
+slice-aggregate-codes c = search needs
 
 mul-readings : tie.Need-mul-readings
 mul-readings c = omega arith
@@ -24,11 +27,32 @@ add-readings c = omega arith
 readings-requires : tie.Need-readings-requires
 readings-requires c κs = search needs
 
-array-share-prefix-codes : tie.Need-array-share-prefix-codes
-array-share-prefix-codes c = search needs
-
 slice-aggregate-answer : tie.Need-slice-aggregate-answer
 slice-aggregate-answer c = simp length-take (omega arith)
+
+mul-answer : tie.Need-mul-answer
+mul-answer c = omega arith
+
+sub-answer : tie.Need-sub-answer
+sub-answer c = omega arith
+
+part-answer-start : tie.Need-part-answer-start
+part-answer-start c = omega arith
+
+part-answer-end : tie.Need-part-answer-end
+part-answer-end c = omega arith
+
+mul-answer-2 : tie.Need-mul-answer-2
+mul-answer-2 c = omega arith
+
+sub-answer-2 : tie.Need-sub-answer-2
+sub-answer-2 c = omega arith
+
+part-answer-start-2 : tie.Need-part-answer-start-2
+part-answer-start-2 c = omega arith
+
+part-answer-end-2 : tie.Need-part-answer-end-2
+part-answer-end-2 c = omega arith
 
 array-share-prefix-readings : tie.Need-array-share-prefix-readings
 array-share-prefix-readings c = search needs
@@ -37,7 +61,7 @@ slice-aggregate-answer-2 : tie.Need-slice-aggregate-answer-2
 slice-aggregate-answer-2 c = simp length-take (omega arith)
 
 answer-requires : tie.Need-answer-requires
-answer-requires c κs = simp length-take (omega arith)
+answer-requires c κs = search needs
 
 returns : tie.Need-returns
 returns c = search needs
@@ -46,14 +70,22 @@ pub answer-spec : {M : Type 1} → statement M
 answer-spec =
     tie.close
     (tie.spec
+    add-to-a
     add-n
-    add-n-2
     codes-requires
+    slice-aggregate-codes
     mul-readings
     add-readings
     readings-requires
-    array-share-prefix-codes
     slice-aggregate-answer
+    mul-answer
+    sub-answer
+    part-answer-start
+    part-answer-end
+    mul-answer-2
+    sub-answer-2
+    part-answer-start-2
+    part-answer-end-2
     array-share-prefix-readings
     slice-aggregate-answer-2
     answer-requires
