@@ -1,0 +1,87 @@
+-- Laws of the places of cells: where one begins and ends, and that the part between is the cell.
+use mathlib.Core.Path.{_≡_, refl, sym, _∙_}
+use mathlib.Core.Bool.{Bool, true, false, cond, false≢true}
+use mathlib.Core.Logic.{inl, inr}
+use mathlib.Core.List.{List, []}
+use Prim.Native.Nat.{ℕ, _+_, _*_, _-_, _≤_, _<_}
+use native.Mathlib.Nat.{eq-or-lt-of-le, le-refl, mul-one}
+use native.Mathlib.Omega.{arith}
+use borrow.Author.Tests.{ltb-false, leb-true}
+use lib.Dec.{ltb, leb}
+use lib.Ieee.{Float}
+use lib.ListN.{length, getD, take, drop, set, replicate, length-take, length-drop}
+use lib.Seq.{take-take, getD-take, length-take-le, getD-set-same, getD-set-other}
+use Rattle.base.specs.Lists.{total, cut}
+use Rattle.base.proofs.Bounds.{product-le, row-end}
+use Rattle.base.proofs.Cuts.{total-turn, total-split, cut-at}
+use Rattle.margins.specs.Table.{Starts, Laid, Line, Fitting, tableFits}
+
+either-false : (x : Bool) {y : Bool} → cond x false y ≡ true → (x ≡ false) × (y ≡ true)
+either-false false e = (refl, e)
+either-false true e = absurd (false≢true e)
+
+-- one cell more
+pub total-next : (ns : List ℕ) (c : ℕ) → c < length ns → total (take (c + 1) ns) ≡ total (take c ns) + getD ns c 0
+total-next ns c h = omega (arith, total-split ns c, total-split ns (c + 1), total-turn ns c h)
+
+-- the cells before some end before
+pub total-within : (ns : List ℕ) (c k : ℕ) → c ≤ k → total (take c ns) ≤ total (take k ns)
+total-within ns c k h = rw (← take-take c k ns h) (omega (arith, total-split (take k ns) c))
+
+-- the first cell begins at the first place
+pub none-yet : (ns : List ℕ) → Starts 0 ns (replicate 37 0)
+unfolding total
+none-yet ns d h = let z : d ≡ 0 = omega arith in rw z
+
+-- a count that is over what is left of n: the sum is over n
+pub over-left : (ns : List ℕ) (c k left n : ℕ) → c < length ns → c < k → left + total (take c ns) ≡ n → left < getD ns c 0 → n < total (take k ns)
+over-left ns c k left n h l e q = omega (arith, total-next ns c h, total-within ns (c + 1) k (omega arith))
+
+-- one beginning more is put down
+pub starts-next : (ns ss : List ℕ) (c t : ℕ) → c < length ns → c + 1 < length ss → Starts c ns ss → t ≡ total (take c ns) + getD ns c 0 → Starts (c + 1) ns (set ss (c + 1) t)
+starts-next ns ss c t h l s e d b = elim (eq-or-lt-of-le b) [
+  | inl q ↦ rw q (getD-set-same ss (c + 1) t 0 l ∙ e ∙ sym (total-next ns c h))
+  | inr q ↦ getD-set-other ss (c + 1) d t 0 (λ z. omega arith) ∙ s d (omega arith)
+]
+
+module _ (k : ℕ) (ns ss : List ℕ) (xs : List Float) (l : Laid k ns ss xs) (c : ℕ) (h : c < k) where
+  next : total (take (c + 1) ns) ≡ total (take c ns) + getD ns c 0
+  next = total-next ns c (omega (arith, l .long))
+
+  pub begins : getD ss c 0 ≤ getD ss (c + 1) 0
+  begins = omega (arith, l .starts c (omega arith), l .starts (c + 1) (omega arith), next)
+
+  pub stays : getD ss (c + 1) 0 ≤ length xs
+  stays = omega (arith, l .starts (c + 1) (omega arith), total-within ns (c + 1) k (omega arith), l .room)
+
+  pub is-cell : take (getD ss (c + 1) 0 - getD ss c 0) (drop (getD ss c 0) xs) ≡ getD (cut (take k ns) xs) c []
+  is-cell =
+      let n : getD ss (c + 1) 0 - getD ss c 0 ≡ getD ns c 0 = omega (arith, l .starts c (omega arith), l .starts (c + 1) (omega arith), next) in
+      rw (n, l .starts c (omega arith), cut-at (take k ns) c xs (rw (length-take-le k ns (l .long)) h), take-take c k ns (omega arith), getD-take k ns c 0 h)
+
+  pub short : (group : List Float) → group ≡ getD (cut (take k ns) xs) c [] → length group ≤ length xs
+  short group e = rw (e, ← is-cell) (simp (length-take, length-drop) (omega arith))
+
+-- what a table that fits leaves known
+pub fitting : (ns : List ℕ) (xs : List Float) (a b : ℕ) → tableFits ns xs a b ≡ true → Fitting ns xs a b
+unfolding tableFits
+fitting ns xs a b e =
+    let p = either-false (ltb 6 a) e in
+    let q = either-false (ltb 6 b) (p .1) in
+    let r = either-false (ltb 512 (length xs)) (q .1) in
+    let n = either-false (ltb (length ns) (a * b)) (r .1) in
+    record { counts = ltb-false (length ns) (a * b) (n .0); rows = ltb-false 6 a (p .0); columns = ltb-false 6 b (q .0); most = ltb-false 512 (length xs) (r .0); room = leb-true (total (take (a * b) ns)) (length xs) (n .1) }
+
+module _ (ns ss : List ℕ) (xs : List Float) (a b : ℕ) (f : Fitting ns xs a b) where
+  pub few-cells : a * b ≤ 36
+  few-cells = product-le 6 6 (f .rows) (f .columns)
+
+  pub laid : Starts (a * b) ns ss → Laid (a * b) ns ss xs
+  laid s = record { few = few-cells; long = f .counts; starts = s; room = f .room }
+
+  -- the cells of a row, and those of a column, stay within the design
+  pub row-line : (i : ℕ) → i < a → Line (a * b) (i * b) 1 b
+  row-line i h q l = omega (arith, row-end i a b h (le-refl (a * b)), mul-one q)
+
+  pub column-line : (j : ℕ) → j < b → Line (a * b) (j * 1) b a
+  column-line j h q l = omega (arith, row-end q a b l (le-refl (a * b)), mul-one j)

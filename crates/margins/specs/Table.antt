@@ -1,0 +1,113 @@
+-- What is told of the cells cs of a two-way design. They lie by A, then by B: cell (i, j) of b columns has the number i * b + j.
+use Prim.Native.Nat.{ℕ, _+_, _*_, _≤_, _<_}
+use mathlib.Core.Path.{_≡_}
+use mathlib.Core.Bool.{Bool, false, cond}
+use mathlib.Core.List.{List, [], foldl}
+use lib.Dec.{leb, ltb}
+use lib.Ieee.{Float, nan}
+use lib.ListN.{length, getD, set, take, replicate}
+use Rattle.base.specs.Lists.{total, cut}
+use Rattle.base.specs.Loop.{loop}
+use Rattle.float.specs.Words.{_⊕_, _⊘_, plusZero, one}
+use Rattle.stats.specs.Sums.{addBy, sqDist, meanOf}
+use Rattle.margins.specs.declared.Tally.{Tally}
+use Rattle.margins.specs.declared.CellTable.{CellTable}
+
+abbrev pub cellAt : List (List Float) → ℕ → List Float
+cellAt cs c = getD cs c []
+
+-- `sum += y; count += 1.0`
+abbrev pub tally : Tally → Float → Tally
+tally t y = record { sum = t .sum ⊕ y; count = t .count ⊕ one }
+
+abbrev pub nothing : Tally
+nothing = record { sum = plusZero; count = plusZero }
+
+-- the readings of a line of n cells, the first of them s, each d further on
+abbrev pub lineStep : List (List Float) → ℕ → ℕ → ℕ → Tally → Tally
+lineStep cs s d q t = foldl tally t (cellAt cs (s + q * d))
+
+unfoldable pub tallyLine : List (List Float) → ℕ → ℕ → ℕ → Tally
+tallyLine cs s d n = loop 0 n (lineStep cs s d) nothing
+
+-- f 0, f 1, .. in the first n places of `out`
+abbrev pub putAt : (ℕ → Float) → ℕ → List Float → List Float
+putAt f i out = set out i (f i)
+
+unfoldable pub listed : ℕ → (ℕ → Float) → List Float → List Float
+listed n f out = loop 0 n (putAt f) out
+
+unfoldable pub noLevels : List Float
+noLevels = replicate 6 plusZero
+
+unfoldable pub noCells : List Float
+noCells = replicate 36 plusZero
+
+-- the mean of all readings at a level: of m levels, of which each has n cells; the levels' first cells lie e apart, a level's cells d apart
+abbrev pub margin : List (List Float) → ℕ → ℕ → ℕ → ℕ → Float
+margin cs e d n i = tallyLine cs (i * e) d n .sum ⊘ tallyLine cs (i * e) d n .count
+
+unfoldable pub margins : List (List Float) → ℕ → ℕ → ℕ → ℕ → List Float
+margins cs m e d n = listed m (margin cs e d n) noLevels
+
+-- the mean of each cell
+abbrev pub cellMean : List (List Float) → ℕ → Float
+cellMean cs c = meanOf (cellAt cs c)
+
+unfoldable pub cellMeans : List (List Float) → ℕ → List Float
+cellMeans cs k = listed k (cellMean cs) noCells
+
+-- the squared distances of the readings from their cell's mean, added up cell by cell from 0.0
+abbrev pub errorStep : List (List Float) → List Float → ℕ → Float → Float
+errorStep cs means c t = foldl (addBy (sqDist (getD means c nan))) t (cellAt cs c)
+
+unfoldable pub ssError : List (List Float) → List Float → ℕ → Float
+ssError cs means k = loop 0 k (errorStep cs means) plusZero
+
+-- the table of a rows and b columns: at most 6 of each, at most 512 readings, a count for each cell, and enough readings; else nothing but zeros
+abbrev pub noTable : CellTable
+noTable = record { «cell_means» = noCells; «marginal_means_a» = noLevels; «marginal_means_b» = noLevels; «ss_error» = plusZero }
+
+abbrev pub tableOf : List (List Float) → ℕ → ℕ → CellTable
+tableOf cs a b = record {
+  «cell_means» = cellMeans cs (a * b);
+  «marginal_means_a» = margins cs a b 1 b;
+  «marginal_means_b» = margins cs b 1 b a;
+  «ss_error» = ssError cs (cellMeans cs (a * b)) (a * b);
+}
+
+unfoldable pub tableFits : List ℕ → List Float → ℕ → ℕ → Bool
+tableFits ns xs a b =
+    cond (ltb 6 a) false
+    (cond (ltb 6 b) false
+    (cond (ltb 512 (length xs)) false
+    (cond (ltb (length ns) (a * b)) false
+    (leb (total (take (a * b) ns)) (length xs)))))
+
+unfoldable pub cellTable : List ℕ → List Float → ℕ → ℕ → CellTable
+cellTable ns xs a b = cond (tableFits ns xs a b) (tableOf (cut (take (a * b) ns) xs) a b) noTable
+
+-- ---- what the code keeps
+
+-- where each of the first k cells begins
+abbrev pub Starts : ℕ → List ℕ → List ℕ → Type 0
+Starts k ns starts = (c : ℕ) → c ≤ k → getD starts c 0 ≡ total (take c ns)
+
+-- k cells lie in the readings xs
+pub record Laid (k : ℕ) (ns ss : List ℕ) (xs : List Float) : Type 0 where
+  pub few : k ≤ 36
+  pub long : k ≤ length ns
+  pub starts : Starts k ns ss
+  pub room : total (take k ns) ≤ length xs
+
+-- a line of n cells stays among k
+abbrev pub Line : ℕ → ℕ → ℕ → ℕ → Type 0
+Line k s d n = (q : ℕ) → q < n → s + q * d < k
+
+-- what a table that fits leaves known
+pub record Fitting (ns : List ℕ) (xs : List Float) (a b : ℕ) : Type 0 where
+  pub counts : a * b ≤ length ns
+  pub rows : a ≤ 6
+  pub columns : b ≤ 6
+  pub most : length xs ≤ 512
+  pub room : total (take (a * b) ns) ≤ length xs
