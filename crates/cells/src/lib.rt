@@ -6,7 +6,7 @@ mod tally;
 use base::Refusal;
 ghost use mathlib.Core.Path.{_≡_};
 ghost use Rattle.cells.specs.Checks.{twoWayRefusal};
-ghost use Rattle.cells.specs.Organized.{organizeTwoWayData};
+ghost use Rattle.cells.specs.Organized.{checkedData, organizeTwoWayData};
 
 // The design of readings that passed the checks, or a refusal. The cell (i, j) stands at place i * levels_b + j of cell_n.
 pub struct TwoWayData {
@@ -21,8 +21,20 @@ pub struct TwoWayData {
 pub fn two_way_refusal(values: &[f64], factor_a: &[u32], factor_b: &[u32], lent: usize) -> Refusal
     ensures { λ r. ⌜ r ≡ twoWayRefusal (now (values .entry)) (now («factor_a» .entry)) (now («factor_b» .entry)) lent ⌝ }
 {
-    let d = door::checked(values, factor_a, factor_b, lent);
+    let d = check_two_way_data(values, factor_a, factor_b, lent);
     d.refusal
+}
+
+// The design alone, behind the same checks: nothing is sorted, and no scratch is touched.
+pub fn check_two_way_data(
+    values: &[f64],
+    factor_a: &[u32],
+    factor_b: &[u32],
+    lent: usize,
+) -> TwoWayData
+    ensures { λ r. ⌜ r ≡ checkedData (now (values .entry)) (now («factor_a» .entry)) (now («factor_b» .entry)) lent ⌝ }
+{
+    door::checked(values, factor_a, factor_b, lent)
 }
 
 // The readings cell by cell in the first places of the scratch, by A, then B, and in input order within a cell; and how many each cell has.

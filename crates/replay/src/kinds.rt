@@ -6,6 +6,8 @@ use answers::roots;
 use answers::sheets;
 use answers::views;
 use lines::Out;
+use matrices::spectra;
+use matrices::systems;
 
 pub fn answer(
     out: &mut Out,
@@ -22,9 +24,17 @@ pub fn answer(
         2 => figures::variance(out, at, readings),
         3 => one_way::fisher(out, at, sizes, readings),
         4 => one_way::welch(out, at, sizes, readings),
+        5 => designs::two_way(out, at, option, a, b, readings),
+        7 => designs::study(out, at, option, a, b, readings),
         8 => roots::roots(out, at, readings),
         9 => views::view(out, at, option, sizes, readings),
         10 => sheets::sheet(out, at, option, sizes, a, readings),
+        11 => systems::solve(out, at, option, readings),
+        12 => systems::inverse(out, at, option, readings),
+        13 => systems::determinant(out, at, option, readings),
+        14 => spectra::eigenvalues(out, at, option, readings),
+        15 => spectra::qr(out, at, option, readings),
+        16 => spectra::orthonormalize(out, at, option, readings),
         17 => roots::power(out, at, option, readings),
         _ => lines::words(out, at, b"unknown kind\n"),
     }

@@ -5,6 +5,7 @@ use mathlib.Core.Bool.{Bool, true, false, cond}
 use mathlib.Core.List.{List, [], _∷_, map, foldl}
 use lib.Ieee.{Float, binary64, ofBits, toBits, add, sub, mul, div, neg, lt, ofInt, isNan}
 use lib.ListN.{replicate}
+use Rattle.base.specs.declared.Refusal.{Refusal}
 use Rattle.base.specs.Refusals.{guarded}
 use Rattle.base.specs.Lists.{total, cut}
 use Rattle.stats.specs.Sums.{sumBy, hasNan}
@@ -16,12 +17,26 @@ use Rattle.oneway.specs.Results.{noSizes, noMeans}
 use Rattle.oneway.specs.Fisher.{fisherAnova}
 use Rattle.oneway.specs.Welch.{welchAnova}
 use Rattle.oneway.specs.Anova.{anova, oneWayAnova}
+use Rattle.base.specs.Loop.{loop, turns}
+use Rattle.cells.specs.Cells.{cell, numbers, cells}
+use Rattle.cells.specs.Checks.{largest, shapeRefusal, levelsRefusal, emptyRefusal, cellsRefusal, twoWayRefusal}
+use Rattle.margins.specs.Table.{tallyLine, listed, noLevels, noCells, margins, cellMeans, ssError}
+use Rattle.balanced.specs.Squares.{unlike, otherCount, meanLine, meanMargins, abRow, ssAb, balancedSs}
+use Rattle.twoway.specs.declared.TwoWayAnovaResult.{TwoWayAnovaResult}
+use Rattle.twoway.specs.Results.{answerOf, refusedResult}
+use Rattle.twoway.specs.Anova.{squaresOf, twoWayAnova}
+use Rattle.study.specs.declared.GaugeStudy.{GaugeStudy}
+use Rattle.study.specs.Study.{balanceRefusal, studyRefusal, componentsOf, gaugeStudy}
+use Rattle.float.specs.Words.{plusZero}
 use Rattle.root.specs.Root.{sqrtOf}
 
 -- what is asked; readings are given by their bits
 pub data Asked : Type 0 where
   OneWay : AnovaKind → List ℕ → List ℕ → Asked
   Root : ℕ → Asked
+  TwoWay : List ℕ → List ℕ → List ℕ → Asked
+  Study : List ℕ → List ℕ → List ℕ → Asked
+  TwoWayDoor : List ℕ → List ℕ → List ℕ → Asked
 
 -- a float by its bits, a mark as 1 or 0
 abbrev shown : Float → ℕ
@@ -39,9 +54,32 @@ oneWayLine r =
     ∷ mark (r .«has_ms») ∷ shown (r .«ms_between») ∷ shown (r .«ms_within»)
     ∷ mark (r .«has_grand_mean») ∷ shown (r .«grand_mean») ∷ []
 
+-- the refusal and its details; the sums of squares of A, B, the interaction, the residual and the total; the three F
+abbrev twoWayLine : TwoWayAnovaResult → List ℕ
+twoWayLine r =
+    r .refusal .number ∷ r .refusal .first ∷ r .refusal .second
+    ∷ shown (r .«factor_a» .ss) ∷ shown (r .«factor_b» .ss) ∷ shown (r .interaction .ss) ∷ shown (r .residual .ss) ∷ shown (r .total .ss)
+    ∷ shown (r .«factor_a» .f) ∷ shown (r .«factor_b» .f) ∷ shown (r .interaction .f) ∷ []
+
+-- the refusal and its details; the components of A, B, the interaction and the residual, and their total
+abbrev studyLine : GaugeStudy → List ℕ
+studyLine r =
+    r .refusal .number ∷ r .refusal .first ∷ r .refusal .second
+    ∷ shown (r .«component_a») ∷ shown (r .«component_b») ∷ shown (r .«component_ab») ∷ shown (r .«component_residual») ∷ shown (r .«component_total») ∷ []
+
+abbrev refusalLine : Refusal → List ℕ
+refusalLine r = r .number ∷ r .first ∷ r .second ∷ []
+
+-- what is lent
+unfoldable pub lent : List Float
+lent = replicate 6400 plusZero
+
 unfoldable pub answer : Asked → List ℕ
 answer (OneWay kind xs ns) = oneWayLine (oneWayAnova kind (map (ofBits binary64) xs) ns)
 answer (Root x) = shown (sqrtOf (ofBits binary64 x)) ∷ []
+answer (TwoWay xs us vs) = twoWayLine (twoWayAnova (map (ofBits binary64) xs) us vs lent .1)
+answer (Study xs us vs) = studyLine (gaugeStudy (map (ofBits binary64) xs) us vs lent .1)
+answer (TwoWayDoor xs us vs) = refusalLine (twoWayRefusal (map (ofBits binary64) xs) us vs 6400)
 
 -- a line of the table: the question, and the answer that the paper gives
 abbrev Line : Type 0
@@ -78,6 +116,30 @@ n20 = 0x4034000000000000
 abbrev n25 : ℕ
 n25 = 0x4039000000000000
 
+abbrev n6 : ℕ
+n6 = 0x4018000000000000
+
+abbrev n11 : ℕ
+n11 = 0x4026000000000000
+
+abbrev n13 : ℕ
+n13 = 0x402A000000000000
+
+abbrev n27 : ℕ
+n27 = 0x403B000000000000
+
+abbrev n32 : ℕ
+n32 = 0x4040000000000000
+
+abbrev n36 : ℕ
+n36 = 0x4042000000000000
+
+abbrev n72 : ℕ
+n72 = 0x4052000000000000
+
+abbrev n120 : ℕ
+n120 = 0x405E000000000000
+
 abbrev infinite : ℕ
 infinite = 0x7FF0000000000000
 
@@ -91,6 +153,10 @@ refusal n a b = n ∷ a ∷ b ∷ replicate 12 0
 -- Welch's line: F and the degrees of freedom, and nothing else
 abbrev welch : ℕ → ℕ → ℕ → List ℕ
 welch f b w = 0 ∷ 0 ∷ 0 ∷ f ∷ b ∷ w ∷ replicate 9 0
+
+-- P6's readings, cell by cell
+abbrev p6 : List ℕ
+p6 = n1 ∷ n3 ∷ n5 ∷ n7 ∷ n3 ∷ n5 ∷ n11 ∷ n13 ∷ []
 
 abbrev lines : List Line
 lines =
@@ -106,6 +172,12 @@ lines =
     -- P5 Fisher {2,2},{2,2}; and {1,1},{3,3}
     ∷ (OneWay Fisher (n2 ∷ n2 ∷ n2 ∷ n2 ∷ []) (2 ∷ 2 ∷ []), 0 ∷ 0 ∷ 0 ∷ notANumber ∷ n1 ∷ n2 ∷ 1 ∷ 0 ∷ 0 ∷ 0 ∷ 1 ∷ 0 ∷ 0 ∷ 1 ∷ n2 ∷ [])
     ∷ (OneWay Fisher (n1 ∷ n1 ∷ n3 ∷ n3 ∷ []) (2 ∷ 2 ∷ []), 0 ∷ 0 ∷ 0 ∷ infinite ∷ n1 ∷ n2 ∷ 1 ∷ n4 ∷ 0 ∷ n4 ∷ 1 ∷ n4 ∷ 0 ∷ 1 ∷ n2 ∷ [])
+    -- P6 2x2, cells {1,3},{5,7},{3,5},{11,13}; and P7, its study
+    ∷ (TwoWay p6 (0 ∷ 0 ∷ 0 ∷ 0 ∷ 1 ∷ 1 ∷ 1 ∷ 1 ∷ []) (0 ∷ 0 ∷ 1 ∷ 1 ∷ 0 ∷ 0 ∷ 1 ∷ 1 ∷ []), 0 ∷ 0 ∷ 0 ∷ n32 ∷ n72 ∷ n8 ∷ n8 ∷ n120 ∷ n16 ∷ n36 ∷ n4 ∷ [])
+    ∷ (Study p6 (0 ∷ 0 ∷ 0 ∷ 0 ∷ 1 ∷ 1 ∷ 1 ∷ 1 ∷ []) (0 ∷ 0 ∷ 1 ∷ 1 ∷ 0 ∷ 0 ∷ 1 ∷ 1 ∷ []), 0 ∷ 0 ∷ 0 ∷ n6 ∷ n16 ∷ n3 ∷ n2 ∷ n27 ∷ [])
+    -- P8 one reading a cell; and one reading more, which is accepted
+    ∷ (TwoWayDoor (n1 ∷ n2 ∷ n3 ∷ n5 ∷ []) (0 ∷ 0 ∷ 1 ∷ 1 ∷ []) (0 ∷ 1 ∷ 0 ∷ 1 ∷ []), 2 ∷ 5 ∷ 4 ∷ [])
+    ∷ (TwoWayDoor (n1 ∷ n2 ∷ n3 ∷ n5 ∷ n7 ∷ []) (0 ∷ 0 ∷ 1 ∷ 1 ∷ 1 ∷ []) (0 ∷ 1 ∷ 0 ∷ 1 ∷ 1 ∷ []), 0 ∷ 0 ∷ 0 ∷ [])
     -- P11 the roots of 4, of 2, of the smallest subnormal, and of -1
     ∷ (Root n4, n2 ∷ [])
     ∷ (Root n2, 0x3FF6A09E667F3BCD ∷ [])
@@ -123,5 +195,5 @@ abbrev given : Line → List ℕ
 given l = l .1
 
 pub worked : map asked lines ≡ map given lines
-unfolding answer oneWayAnova anova fisherAnova welchAnova noSizes noMeans oneWayRefusal sizesRefusal groupsRefusal groupFault guarded total cut hasNan sumBy sqrtOf ofBits toBits add sub mul div neg lt ofInt isNan
+unfolding answer lent twoWayAnova squaresOf answerOf twoWayRefusal shapeRefusal levelsRefusal emptyRefusal cellsRefusal largest cells cell numbers tallyLine listed noLevels noCells margins cellMeans ssError unlike otherCount meanLine meanMargins abRow ssAb balancedSs balanceRefusal studyRefusal componentsOf gaugeStudy loop turns oneWayAnova anova fisherAnova welchAnova noSizes noMeans oneWayRefusal sizesRefusal groupsRefusal groupFault guarded total cut hasNan sumBy sqrtOf ofBits toBits add sub mul div neg lt ofInt isNan
 worked = refl

@@ -1,0 +1,66 @@
+-- `eigen::compute_eigenvalues` meets its contract.
+use Prim.Native.Nat.{_-_}
+use mathlib.Core.Path.{sym, _∙_}
+use native.Mathlib.Omega.{arith}
+use borrow.Author.Needs.{needs}
+use lib.ListN.{length}
+use Rattle.eigen.proofs.Calls.{eigen-first, eigen-second, eigen-taken}
+use Rattle.eigen.proofs.Sizes.{Sized, sized}
+use Rattle.eigen.proofs.compute_eigenvalues.Statement.{statement}
+use Rattle.eigen.proofs.compute_eigenvalues.Tie as tie
+
+-- what the tests leave known
+first : (c : tie.Else1) → Sized 11 (c .before .before .before .before .args .n) (c .before .before .before .before .args .n) (length (c .before .before .before .before .args .m .now))
+first c = sized _ _ _ _ (sym (c .before .refuses .ensures) ∙ c .if1 .left)
+
+second : (c : tie.Else2) → Sized 11 (c .before .before .before .before .before .before .args .n) 1 (length (c .before .before .before .before .before .before .args .values .now))
+second c = sized _ _ _ _ (sym (c .before .refuses2 .ensures) ∙ c .if2 .left)
+
+refuses-requires : tie.Need-refuses-requires
+refuses-requires c κs = search needs
+
+returns : tie.Need-returns
+returns c = eigen-first _ _ _ (c .before .refuses .ensures) (c .if1 .taken)
+
+refuses-requires-2 : tie.Need-refuses-requires-2
+refuses-requires-2 c κs = search needs
+
+returns-2 : tie.Need-returns-2
+returns-2 c = eigen-second _ _ _ (c .before .before .before .refuses .ensures) (c .before .before .if1 .left) (c .before .refuses2 .ensures) (c .if2 .taken)
+
+rounds-requires : tie.Need-rounds-requires
+rounds-requires c κs = let a = first (c .before .before .before) in (omega arith, (omega arith, omega arith))
+
+mul-canon-places : tie.Need-mul-canon-places
+mul-canon-places c = let k = first (c .before .before .before .before .before .before .before) in omega arith
+
+canon-places-requires : tie.Need-canon-places-requires
+canon-places-requires c κs = let k = first (c .before .before .before .before .before .before .before) in omega arith
+
+diagonal-requires : tie.Need-diagonal-requires
+diagonal-requires c κs = let a = first (c .before .before .before .before .before .before .before .before .before .before .before .before) in let b = second (c .before .before .before .before .before .before .before .before .before .before) in (omega arith, omega arith)
+
+same-length : tie.Need-same-length
+same-length c = search needs
+
+same-length-2 : tie.Need-same-length-2
+same-length-2 c = search needs
+
+returns-3 : tie.Need-returns-3
+returns-3 c = eigen-taken _ _ _ (c .before .before .before .before .before .before .before .before .before .before .before .before .before .before .before .before .refuses .ensures) (c .before .before .before .before .before .before .before .before .before .before .before .before .before .before .before .if1 .left) (c .before .before .before .before .before .before .before .before .before .before .before .before .before .before .refuses2 .ensures) (c .before .before .before .before .before .before .before .before .before .before .before .before .before .if2 .left) (c .before .before .before .before .before .before .before .before .before .before .before .rounds .ensures) (c .before .before .before .before .before .before .before .canon-places .ensures) (c .before .before .diagonal .ensures)
+
+pub compute-eigenvalues-spec : {M : Type 1} → statement M
+compute-eigenvalues-spec =
+    tie.close
+    (tie.spec
+    refuses-requires
+    returns
+    refuses-requires-2
+    returns-2
+    rounds-requires
+    mul-canon-places
+    canon-places-requires
+    diagonal-requires
+    same-length
+    same-length-2
+    returns-3)

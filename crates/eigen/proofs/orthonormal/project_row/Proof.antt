@@ -1,0 +1,30 @@
+-- `eigen::orthonormal::project_row` meets its contract.
+use Prim.Native.Nat.{_-_}
+use native.Mathlib.Omega.{arith}
+use borrow.Author.Needs.{needs}
+use Rattle.eigen.proofs.Steps.{row-projected}
+use Rattle.eigen.proofs.orthonormal.project_row.Statement.{statement}
+use Rattle.eigen.proofs.orthonormal.project_row.Tie as tie
+
+mul-row-dot : tie.Need-mul-row-dot
+mul-row-dot c = omega arith
+
+mul-row-dot-2 : tie.Need-mul-row-dot-2
+mul-row-dot-2 c = omega arith
+
+row-dot-requires : tie.Need-row-dot-requires
+row-dot-requires c κs = search needs
+
+less-row-requires : tie.Need-less-row-requires
+less-row-requires c κs = search needs
+
+same-length : tie.Need-same-length
+same-length c = search needs
+
+returns : tie.Need-returns
+returns c = row-projected _ _ _ _ (c .before .before .before .before .row-dot .ensures) (c .before .before .less-row .ensures)
+
+pub project-row-spec : {M : Type 1} → statement M
+project-row-spec =
+    tie.close
+    (tie.spec mul-row-dot mul-row-dot-2 row-dot-requires less-row-requires same-length returns)

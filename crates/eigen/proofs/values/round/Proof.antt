@@ -1,0 +1,47 @@
+-- `eigen::values::round` meets its contract.
+use Prim.Native.Nat.{_-_}
+use native.Mathlib.Omega.{arith}
+use borrow.Author.Needs.{needs}
+use Rattle.eigen.specs.Values.{zeros}
+use Rattle.eigen.proofs.Steps.{round-done}
+use Rattle.base.proofs.Bounds.{product-le}
+use Rattle.eigen.proofs.values.round.Statement.{statement}
+use Rattle.eigen.proofs.values.round.Tie as tie
+
+slice-aggregate-qr-columns : tie.Need-slice-aggregate-qr-columns
+slice-aggregate-qr-columns c = search needs
+
+slice-aggregate-qr-columns-2 : tie.Need-slice-aggregate-qr-columns-2
+slice-aggregate-qr-columns-2 c = search needs
+
+qr-columns-requires : tie.Need-qr-columns-requires
+qr-columns-requires c κs = let h = product-le 11 11 (c .before .before .before .before .pre .1 .0) (c .before .before .before .before .pre .1 .0) in (omega arith, (omega arith, (omega (arith, h), omega (arith, h))))
+
+slice-aggregate-product : tie.Need-slice-aggregate-product
+slice-aggregate-product c = search needs
+
+slice-aggregate-product-2 : tie.Need-slice-aggregate-product-2
+slice-aggregate-product-2 c = search needs
+
+product-requires : tie.Need-product-requires
+product-requires c κs = let h = product-le 11 11 (c .before .before .before .before .before .before .before .before .before .before .pre .1 .0) (c .before .before .before .before .before .before .before .before .before .before .pre .1 .0) in (omega arith, (omega (arith, h), (omega (arith, h), omega arith)))
+
+same-length : tie.Need-same-length
+same-length c = search needs
+
+returns : tie.Need-returns
+unfolding zeros
+returns c = round-done _ _ (c .before .before .before .before .before .before .before .before .qr-columns .ensures) (c .before .before .product .ensures)
+
+pub round-spec : {M : Type 1} → statement M
+round-spec =
+    tie.close
+    (tie.spec
+    slice-aggregate-qr-columns
+    slice-aggregate-qr-columns-2
+    qr-columns-requires
+    slice-aggregate-product
+    slice-aggregate-product-2
+    product-requires
+    same-length
+    returns)

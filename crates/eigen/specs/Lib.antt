@@ -1,0 +1,5 @@
+pub mod Places
+pub mod Orthonormal
+pub mod Product
+pub mod Qr
+pub mod Values

@@ -1,0 +1,101 @@
+// The gauge study: how much of the readings' variance meters, benches and their interaction account for, from a balanced two-way analysis.
+use base::Refusal;
+use twoway::TwoWayAnovaResult;
+ghost use mathlib.Core.Path.{_≡_};
+ghost use Prim.Native.Nat.{_*_, _≤_};
+ghost use lib.ListN.{length};
+ghost use Rattle.study.specs.Study.{balanceRefusal, studyRefusal, refusedStudy, componentsOf, gaugeStudy};
+
+// The components of variance, each as it comes out; meters are the levels of A, benches those of B.
+pub struct GaugeStudy {
+    pub refusal: Refusal,
+    pub meters: usize,
+    pub benches: usize,
+    pub readings: usize,
+    pub component_a: f64,
+    pub component_b: f64,
+    pub component_ab: f64,
+    pub component_residual: f64,
+    pub component_total: f64,
+}
+
+// The answer that carries a refusal alone.
+fn refused(refusal: Refusal) -> GaugeStudy
+    ensures { λ r. ⌜ r ≡ refusedStudy refusal ⌝ }
+{
+    GaugeStudy {
+        refusal: refusal,
+        meters: 0,
+        benches: 0,
+        readings: 0,
+        component_a: 0.0,
+        component_b: 0.0,
+        component_ab: 0.0,
+        component_residual: 0.0,
+        component_total: 0.0,
+    }
+}
+
+// Whether all cells have as many readings as the first; else how many it has, and how many the first that differs.
+fn balance_refusal(counts: &[usize]) -> Refusal
+    requires { ⌜ 1 ≤ length (now counts) ⌝ }
+    ensures { λ r. ⌜ r ≡ balanceRefusal (now (counts .entry)) ⌝ }
+{
+    let first = counts[0];
+    let other = balanced::other_count(counts);
+    if other == first {
+        return Refusal::none();
+    }
+    Refusal::new(10, first as u64, other as u64)
+}
+
+// The components, from the mean squares of a table with r readings in each cell.
+fn components(t: TwoWayAnovaResult, r: usize) -> GaugeStudy
+    requires { ⌜ (t .«levels_a» ≤ 6) × ((t .«levels_b» ≤ 6) × (r ≤ 512)) ⌝ }
+    ensures { λ x. ⌜ x ≡ componentsOf t r ⌝ }
+{
+    let a = t.levels_a;
+    let b = t.levels_b;
+    let ms_a = t.factor_a.ms;
+    let ms_b = t.factor_b.ms;
+    let ms_ab = t.interaction.ms;
+    let ms_e = t.residual.ms;
+    let component_ab = float::canon((ms_ab - ms_e) / (r as f64));
+    let component_a = float::canon((ms_a - ms_ab) / ((b * r) as f64));
+    let component_b = float::canon((ms_b - ms_ab) / ((a * r) as f64));
+    GaugeStudy {
+        refusal: Refusal::none(),
+        meters: a,
+        benches: b,
+        readings: r,
+        component_a: component_a,
+        component_b: component_b,
+        component_ab: component_ab,
+        component_residual: ms_e,
+        component_total: float::canon(component_a + component_b + component_ab + ms_e),
+    }
+}
+
+// The study of readings with a code of the meter and of the bench each. The scratch is lent as for a two-way analysis; a refused call does not touch it.
+pub fn gauge_study(
+    values: &[f64],
+    factor_a: &[u32],
+    factor_b: &[u32],
+    scratch: &mut [f64],
+) -> GaugeStudy
+    ensures { λ r. ⌜ (now (scratch .exit), r) ≡ gaugeStudy (now (values .entry)) (now («factor_a» .entry)) (now («factor_b» .entry)) (now (scratch .entry)) ⌝ }
+{
+    let d = cells::check_two_way_data(values, factor_a, factor_b, scratch.len());
+    if d.refusal.number != 0 {
+        return refused(d.refusal);
+    }
+    let k = d.levels_a * d.levels_b;
+    let counts = d.cell_n;
+    let uneven = balance_refusal(&counts[..k]);
+    if uneven.number != 0 {
+        return refused(uneven);
+    }
+    let first = counts[0];
+    let t = twoway::two_way_anova(values, factor_a, factor_b, scratch);
+    components(t, first)
+}

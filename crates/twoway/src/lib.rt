@@ -1,0 +1,100 @@
+// Two-way analysis of variance with Type III sums of squares.
+mod squares;
+mod table;
+
+use base::Refusal;
+ghost use mathlib.Core.Path.{_≡_};
+ghost use Rattle.twoway.specs.Results.{noRow, refusedResult};
+ghost use Rattle.twoway.specs.Anova.{twoWayAnova};
+
+// One row of the table. Where there is no F, it is zero beside a mark that says so.
+pub struct AnovaTableRow {
+    pub ss: f64,
+    pub df: f64,
+    pub ms: f64,
+    pub has_f: bool,
+    pub f: f64,
+}
+
+// The answer of a two-way analysis. Cell (i, j) stands at place i * levels_b + j; unused places are zero.
+pub struct TwoWayAnovaResult {
+    pub refusal: Refusal,
+    pub factor_a: AnovaTableRow,
+    pub factor_b: AnovaTableRow,
+    pub interaction: AnovaTableRow,
+    pub residual: AnovaTableRow,
+    pub total: AnovaTableRow,
+    pub levels_a: usize,
+    pub levels_b: usize,
+    pub n: usize,
+    pub grand_mean: f64,
+    pub cell_means: [f64; 36],
+    pub marginal_means_a: [f64; 6],
+    pub marginal_means_b: [f64; 6],
+}
+
+fn no_row() -> AnovaTableRow
+    ensures { λ r. ⌜ r ≡ noRow ⌝ }
+{
+    AnovaTableRow {
+        ss: 0.0,
+        df: 0.0,
+        ms: 0.0,
+        has_f: false,
+        f: 0.0,
+    }
+}
+
+// The answer that carries a refusal alone.
+pub fn refused(refusal: Refusal) -> TwoWayAnovaResult
+    ensures { λ r. ⌜ r ≡ refusedResult refusal ⌝ }
+{
+    TwoWayAnovaResult {
+        refusal: refusal,
+        factor_a: no_row(),
+        factor_b: no_row(),
+        interaction: no_row(),
+        residual: no_row(),
+        total: no_row(),
+        levels_a: 0,
+        levels_b: 0,
+        n: 0,
+        grand_mean: 0.0,
+        cell_means: [0.0; 36],
+        marginal_means_a: [0.0; 6],
+        marginal_means_b: [0.0; 6],
+    }
+}
+
+// The analysis of readings with a code of each factor. The first 6,400 places of the scratch are worked in, and left as +0.0;
+// a refused call does not touch it.
+pub fn two_way_anova(
+    values: &[f64],
+    factor_a: &[u32],
+    factor_b: &[u32],
+    scratch: &mut [f64],
+) -> TwoWayAnovaResult
+    ensures { λ r. ⌜ (now (scratch .exit), r) ≡ twoWayAnova (now (values .entry)) (now («factor_a» .entry)) (now («factor_b» .entry)) (now (scratch .entry)) ⌝ }
+{
+    let d = cells::organize_two_way_data(values, factor_a, factor_b, scratch);
+    if d.refusal.number != 0 {
+        return refused(d.refusal);
+    }
+    let a = d.levels_a;
+    let b = d.levels_b;
+    let n = d.n_total;
+    let counts = d.cell_n;
+    let t = margins::cell_table(&scratch[..n], &counts[..a * b], a, b);
+    let means = t.cell_means;
+    let e = squares::squares(
+        values,
+        factor_a,
+        factor_b,
+        &means[..a * b],
+        &counts[..a * b],
+        a,
+        b,
+        scratch,
+    );
+    table::answer(values, a, b, t, e)
+}

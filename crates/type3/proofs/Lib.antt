@@ -1,0 +1,12 @@
+pub mod Fitted
+pub mod Wipes
+pub mod Ways
+pub mod Built
+pub mod Readings
+pub mod Lent
+pub mod Halves
+pub mod Sizes
+pub mod Chains
+pub mod Answers
+pub mod Entries
+pub mod Columns

@@ -1,0 +1,13 @@
+-- `type3::shape::used` meets its contract.
+use native.Mathlib.Omega.{arith}
+use Rattle.type3.proofs.shape.used.Statement.{statement}
+use Rattle.type3.proofs.shape.used.Tie as tie
+
+returns : tie.Need-returns
+returns c = omega arith
+
+returns-2 : tie.Need-returns-2
+returns-2 c = omega arith
+
+pub used-spec : {M : Type 1} → statement M
+used-spec = tie.close (tie.spec returns returns-2)

@@ -1,0 +1,8 @@
+pub mod Shape
+pub mod Wiping
+pub mod Coding
+pub mod Matrices
+pub mod Normal
+pub mod Steps
+pub mod Wald
+pub mod Answer

@@ -1,0 +1,58 @@
+// Type III sums of squares of an unbalanced two-way design, in memory that the caller lends.
+mod codes;
+mod half;
+mod normal;
+mod shape;
+mod wald;
+
+ghost use mathlib.Core.Path.{_≡_};
+ghost use Rattle.type3.specs.Answer.{type3Ss};
+ghost use Rattle.type3.specs.Wiping.{wiped};
+
+// The sums of squares of factor A, of factor B and of their interaction.
+pub struct Effects {
+    pub ss_a: f64,
+    pub ss_b: f64,
+    pub ss_ab: f64,
+}
+
+// The first 6,400 places, or all where there are fewer, become +0.0.
+pub fn wipe(work: &mut [f64])
+    ensures { λ _. ⌜ now (work .exit) ≡ wiped (now (work .entry)) ⌝ }
+{
+    let k = shape::used(work.len());
+    for i in 0..k {
+        work[i] = 0.0;
+    }
+}
+
+// The sums of squares of a by b levels. The first 6,400 places of the lent memory are used, and left as +0.0.
+// What does not fit gives +0.0 for each, and the memory stays as it is.
+pub fn type3_ss(
+    values: &[f64],
+    factor_a: &[u32],
+    factor_b: &[u32],
+    a: usize,
+    b: usize,
+    work: &mut [f64],
+) -> Effects
+    ensures { λ r. ⌜ (now (work .exit), r) ≡ type3Ss (now (values .entry)) (now («factor_a» .entry)) (now («factor_b» .entry)) a b (now (work .entry)) ⌝ }
+{
+    if !shape::fits(
+        values.len(),
+        factor_a.len(),
+        factor_b.len(),
+        a,
+        b,
+        work.len(),
+    ) {
+        return Effects {
+            ss_a: 0.0,
+            ss_b: 0.0,
+            ss_ab: 0.0,
+        };
+    }
+    let e = wald::all_effects(values, factor_a, factor_b, a, b, &mut work[0..6400]);
+    wipe(work);
+    e
+}

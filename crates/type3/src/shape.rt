@@ -1,0 +1,42 @@
+// What is taken, and how much of the lent memory is used.
+ghost use mathlib.Core.Path.{_≡_};
+ghost use Prim.Native.Nat.{min};
+ghost use Rattle.type3.specs.Shape.{factorFits, fits};
+
+// The places that are used of so many.
+pub fn used(lent: usize) -> usize
+    ensures { λ r. ⌜ r ≡ min 6400 lent ⌝ }
+{
+    if base::SCRATCH_PLACES < lent {
+        return base::SCRATCH_PLACES;
+    }
+    lent
+}
+
+// Two to six levels, and a code for each of n readings.
+fn factor_fits(levels: usize, codes: usize, n: usize) -> bool
+    ensures { λ r. ⌜ r ≡ factorFits levels codes n ⌝ }
+{
+    if levels < 2 {
+        return false;
+    }
+    if base::MOST_LEVELS < levels {
+        return false;
+    }
+    codes == n
+}
+
+pub fn fits(n: usize, codes_a: usize, codes_b: usize, a: usize, b: usize, lent: usize) -> bool
+    ensures { λ r. ⌜ r ≡ fits n «codes_a» «codes_b» a b lent ⌝ }
+{
+    if !factor_fits(a, codes_a, n) {
+        return false;
+    }
+    if !factor_fits(b, codes_b, n) {
+        return false;
+    }
+    if base::MOST_READINGS < n {
+        return false;
+    }
+    base::SCRATCH_PLACES <= lent
+}
