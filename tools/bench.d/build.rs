@@ -1,9 +1,11 @@
-//! Links target/staticlib/libspeed.a, and links it again when it changes.
+//! Links target/staticlib/libspeed.a and librates.a, and links them again when they change.
 
 fn main() {
     let folder = std::env::var("STATICLIB").expect("STATICLIB: tools/bench sets it");
     println!("cargo:rustc-link-search=native={folder}");
-    println!("cargo:rustc-link-lib=static=speed");
-    println!("cargo:rerun-if-changed={folder}/libspeed.a");
+    for library in ["speed", "rates"] {
+        println!("cargo:rustc-link-lib=static={library}");
+        println!("cargo:rerun-if-changed={folder}/lib{library}.a");
+    }
     println!("cargo:rerun-if-env-changed=STATICLIB");
 }

@@ -1,6 +1,6 @@
 //! The proved calls and the Rust original, timed on the same inputs in one run. `tools/bench` builds and runs it.
 //!
-//! A new line: its exported call in `crates/speed` and in `ours.rs`, and a function here or in a file of its own that
+//! A new line: its exported call in `crates/speed` or `crates/rates` and in `ours.rs`, and a function here or in a file of its own that
 //! first compares the two answers and then hands both calls to `Bench::line`.
 
 mod bench;
@@ -9,10 +9,12 @@ mod oneway;
 mod ours;
 mod root;
 mod sheet;
+mod twoway;
 
 fn main() {
     let mut bench = bench::Bench::from_args();
     oneway::lines(&mut bench);
     root::lines(&mut bench);
     sheet::lines(&mut bench);
+    twoway::lines(&mut bench);
 }

@@ -1,4 +1,4 @@
-//! The exported calls of `crates/speed`, declared by hand: nothing checks these lines against the Rattle source.
+//! The exported calls of `crates/speed` and `crates/rates`, declared by hand: nothing checks these lines against the Rattle source.
 //! A slice is passed as a pointer and a length. No call has a `requires`, so each is safe behind its wrapper.
 
 mod c {
@@ -44,11 +44,27 @@ mod c {
             out: *mut f64,
             places: usize,
         ) -> u32;
+        pub fn rates_two_way(
+            values: *const f64,
+            n: usize,
+            factor_a: *const u32,
+            n_a: usize,
+            factor_b: *const u32,
+            n_b: usize,
+            scratch: *mut f64,
+            room: usize,
+            out: *mut f64,
+            places: usize,
+        ) -> u32;
     }
 }
 
 /// How many numbers a one-way analysis hands out.
 pub const ONE_WAY: usize = 25;
+
+/// How many numbers a two-way analysis hands out, and how many places of scratch it is lent.
+pub const TWO_WAY: usize = 6;
+pub const SCRATCH: usize = 6400;
 
 #[inline]
 pub fn fisher(readings: &[f64], sizes: &[u32], out: &mut [f64]) -> u32 {
@@ -113,6 +129,24 @@ pub fn history_welch(readings: &[f64], sizes: &[u32], edits: &[u32], fresh: &[f6
             edits.len(),
             fresh.as_ptr(),
             fresh.len(),
+            out.as_mut_ptr(),
+            out.len(),
+        )
+    }
+}
+
+#[inline]
+pub fn two_way(values: &[f64], factor_a: &[u32], factor_b: &[u32], scratch: &mut [f64], out: &mut [f64]) -> u32 {
+    unsafe {
+        c::rates_two_way(
+            values.as_ptr(),
+            values.len(),
+            factor_a.as_ptr(),
+            factor_a.len(),
+            factor_b.as_ptr(),
+            factor_b.len(),
+            scratch.as_mut_ptr(),
+            scratch.len(),
             out.as_mut_ptr(),
             out.len(),
         )

@@ -1,0 +1,51 @@
+-- `rates::rates_two_way` meets its contract.
+use Prim.Native.Nat.{_-_}
+use borrow.Author.Needs.{needs}
+use borrow.Author.Tests.{lt-ltb}
+use Rattle.rates.proofs.Laid.{accepted, refused}
+use Rattle.rates.specs.Calls.{rated}
+use Rattle.rates.proofs.rates_two_way.Statement.{statement}
+use Rattle.rates.proofs.rates_two_way.Tie as tie
+
+returns : tie.Need-returns
+unfolding rated
+returns c = rw (lt-ltb _ 6 (c .if1 .taken))
+
+two-way-anova-requires : tie.Need-two-way-anova-requires
+two-way-anova-requires c κs = search needs
+
+same-length : tie.Need-same-length
+same-length c = search needs
+
+returns-2 : tie.Need-returns-2
+returns-2 c =
+    let r = c .before .before .before .two-way-anova in
+    refused _ _ _ _ _ _ _ (r .ensures) (c .before .before .before .before .before .if1 .left) (c .if2 .taken)
+
+hand-out-requires : tie.Need-hand-out-requires
+hand-out-requires c κs = search needs
+
+same-length-2 : tie.Need-same-length-2
+same-length-2 c = search needs
+
+same-length-3 : tie.Need-same-length-3
+same-length-3 c = search needs
+
+returns-3 : tie.Need-returns-3
+returns-3 c =
+    let e = c .before .before .before .before in
+    let r = e .before .before .before .two-way-anova in
+    accepted _ _ _ _ _ _ _ (r .ensures) _ (e .before .before .before .before .before .if1 .left) (e .if2 .left) (c .before .before .hand-out .ensures)
+
+pub rates-two-way-spec : {M : Type 1} → statement M
+rates-two-way-spec =
+    tie.close
+    (tie.spec
+    returns
+    two-way-anova-requires
+    same-length
+    returns-2
+    hand-out-requires
+    same-length-2
+    same-length-3
+    returns-3)

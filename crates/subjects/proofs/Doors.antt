@@ -1,0 +1,110 @@
+-- What the checks leave known where they are passed.
+use mathlib.Core.Path.{_≡_, refl, sym, ap, _∙_}
+use mathlib.Core.Bool.{Bool, true, false, cond}
+use mathlib.Core.List.{List, [], _∷_}
+use Prim.Native.Nat.{ℕ, zero, suc, _+_, _*_, _≤_}
+use native.Mathlib.Nat.{suc-mul, zero-mul}
+use native.Mathlib.Omega.{arith}
+use borrow.Author.Tests.{ltb-false, eqb-true, eqb-false}
+use lib.Dec.{ltb, eqb}
+use lib.Ieee.{Float, isNan}
+use lib.ListN.{length, take, drop, getD, replicate, length-drop}
+use lib.Seq.{length-take-le}
+use Rattle.base.specs.Lists.{total, cut}
+use Rattle.base.specs.Refusals.{refuse, when, unless, _orElse_}
+use Rattle.base.proofs.Order.{both-passed, no-fault, needed-there}
+use Rattle.stats.specs.Sums.{hasNan}
+use Rattle.subjects.specs.Checks.{Sized, Passed, conditions, sizesRefusal, designRefusal, subjectFault, subjectsRefusal, repeatedRefusal}
+
+-- no subjects, no conditions
+pub none-first : (ns : List ℕ) → length ns ≡ 0 → 0 ≡ conditions ns
+none-first [] e = refl
+none-first (n ∷ ns) e = absurd (omega (arith, e))
+
+pub sized : (xs : List Float) (ns : List ℕ) → sizesRefusal xs ns .number ≡ 0 → Sized xs ns
+unfolding sizesRefusal
+sized xs ns h =
+    let p = both-passed (when (ltb 64 (length ns)) (refuse 11 3 (length ns))) _ h in
+    let q = both-passed (when (ltb 512 (length xs)) (refuse 11 2 (length xs))) _ (p .1) in
+    record {
+      subjects = ltb-false 64 (length ns) (no-fault (ltb 64 (length ns)) (refuse 11 3 (length ns)) (eqb-false 11 0 refl) (p .0));
+      readings = ltb-false 512 (length xs) (no-fault (ltb 512 (length xs)) (refuse 11 2 (length xs)) (eqb-false 11 0 refl) (q .0));
+      adds = eqb-true (total ns) (length xs) (needed-there (eqb (total ns) (length xs)) (refuse 10 (total ns) (length xs)) (eqb-false 10 0 refl) (q .1));
+    }
+
+-- the bounds of a design
+abbrev Bounds : ℕ → ℕ → Type 0
+Bounds n k = (k ≤ 12) × (2 ≤ n) × (2 ≤ k)
+
+bounds : (n k : ℕ) → designRefusal n k .number ≡ 0 → Bounds n k
+unfolding designRefusal
+bounds n k h =
+    let p = both-passed (when (ltb 12 k) (refuse 11 4 k)) _ h in
+    let q = both-passed (when (ltb n 2) (refuse 2 2 n)) (when (ltb k 2) (refuse 8 k 0)) (p .1) in (
+      ltb-false 12 k (no-fault (ltb 12 k) (refuse 11 4 k) (eqb-false 11 0 refl) (p .0)),
+      ltb-false n 2 (no-fault (ltb n 2) (refuse 2 2 n) (eqb-false 2 0 refl) (q .0)),
+      ltb-false k 2 (no-fault (ltb k 2) (refuse 8 k 0) (eqb-false 8 0 refl) (q .1)),
+    )
+
+-- a subject without a fault has k readings, and none of them is a NaN
+row-fine : (k i : ℕ) (row : List Float) → subjectFault k i row .number ≡ 0 → (length row ≡ k) × (hasNan row ≡ false)
+unfolding subjectFault
+row-fine k i row h =
+    let p = both-passed (unless (eqb (length row) k) (refuse 9 i (length row))) (when (hasNan row) (refuse 4 i 0)) h in (
+      eqb-true (length row) k (needed-there (eqb (length row) k) (refuse 9 i (length row)) (eqb-false 9 0 refl) (p .0)),
+      no-fault (hasNan row) (refuse 4 i 0) (eqb-false 4 0 refl) (p .1),
+    )
+
+-- no NaN in the first n, and none behind them
+no-nan-more : (x : Float) (xs ys : List Float) → (hasNan xs ≡ false → hasNan ys ≡ false) → hasNan (x ∷ xs) ≡ false → hasNan (x ∷ ys) ≡ false
+unfolding hasNan
+no-nan-more x xs ys f = go (isNan x)
+  where
+    go : (b : Bool) → cond b true (hasNan xs) ≡ false → cond b true (hasNan ys) ≡ false
+    go true e = e
+    go false e = f e
+
+no-nan-joined : (n : ℕ) (xs : List Float) → hasNan (take n xs) ≡ false → hasNan (drop n xs) ≡ false → hasNan xs ≡ false
+unfolding hasNan
+no-nan-joined zero xs p q = q
+no-nan-joined (suc n) [] p q = refl
+no-nan-joined (suc n) (x ∷ xs) p q = no-nan-more x (take n xs) xs (λ e. no-nan-joined n xs e q) p
+
+-- subjects without a fault: their rows have k readings each, and none is a NaN
+rows-fine : (k i : ℕ) (ns : List ℕ) (xs : List Float) → total ns ≡ length xs → subjectsRefusal k i (cut ns xs) .number ≡ 0 → (ns ≡ replicate (length ns) k) × (hasNan xs ≡ false)
+unfolding subjectsRefusal cut total hasNan
+rows-fine k i [] [] t h = (refl, refl)
+rows-fine k i [] (x ∷ xs) t h = absurd (omega (arith, t))
+rows-fine k i (n ∷ ns) xs t h =
+    let p = both-passed (subjectFault k i (take n xs)) (subjectsRefusal k (i + 1) (cut ns (drop n xs))) h in
+    let f = row-fine k i (take n xs) (p .0) in
+    let l : n ≡ k = sym (length-take-le n xs (omega (arith, t))) ∙ f .0 in
+    let r = rows-fine k (i + 1) ns (drop n xs) (rw length-drop (omega (arith, t))) (p .1) in
+    (ap (λ (m : ℕ). m ∷ ns) l ∙ ap (λ (ms : List ℕ). k ∷ ms) (r .0), no-nan-joined n xs (f .1) (r .1))
+
+total-replicate : (n k : ℕ) → total (replicate n k) ≡ n * k
+unfolding total
+total-replicate zero k = sym (zero-mul k)
+total-replicate (suc n) k = omega (arith, total-replicate n k, suc-mul n k)
+
+-- all the checks
+pub passed : (xs : List Float) (ns : List ℕ) → repeatedRefusal xs ns .number ≡ 0 → Passed xs ns (length ns) (conditions ns)
+unfolding repeatedRefusal
+passed xs ns h =
+    let p = both-passed (sizesRefusal xs ns) _ h in
+    let q = both-passed (designRefusal (length ns) (conditions ns)) (subjectsRefusal (conditions ns) 1 (cut ns xs)) (p .1) in
+    let s = sized xs ns (p .0) in
+    let b = bounds (length ns) (conditions ns) (q .0) in
+    let r = rows-fine (conditions ns) 1 ns xs (s .adds) (q .1) in
+    record {
+      subjects = refl;
+      conditions = refl;
+      lowN = b .1;
+      highN = s .subjects;
+      lowK = b .2;
+      highK = b .0;
+      few = s .readings;
+      all = sym (s .adds) ∙ ap total (r .0) ∙ total-replicate (length ns) (conditions ns);
+      rows = r .0;
+      numbers = r .1;
+    }
