@@ -1,10 +1,10 @@
--- `speed::history::history` meets its contract.
+-- `pace::history::history` meets its contract.
 use Prim.Native.Nat.{_-_}
 use borrow.Author.Needs.{needs}
-use Rattle.speed.proofs.Turns.{edited-on, not-loaded}
-use Rattle.speed.specs.Histories.{historyOf}
-use Rattle.speed.proofs.history.history.Statement.{statement}
-use Rattle.speed.proofs.history.history.Tie as tie
+use Rattle.pace.proofs.Turns.{edited-on, not-loaded}
+use Rattle.pace.specs.Histories.{historyOf}
+use Rattle.pace.proofs.history.history.Statement.{statement}
+use Rattle.pace.proofs.history.history.Tie as tie
 
 load-requires : tie.Need-load-requires
 load-requires c κs = search needs

@@ -1,15 +1,15 @@
--- `speed::history::reports` meets its contract.
+-- `pace::history::reports` meets its contract.
 use Prim.Native.Nat.{_<_, _-_, _*_}
 use mathlib.Core.Path.{_≡_, refl, ap}
 use native.Mathlib.Omega.{arith}
 use borrow.Author.Needs.{needs}
 use lib.ListN.{length, length-set}
-use Rattle.speed.proofs.Turns.{turned}
-use Rattle.speed.specs.Histories.{State, reported, reportsOf}
+use Rattle.pace.proofs.Turns.{turned}
+use Rattle.pace.specs.Histories.{State, reported, reportsOf}
 use Rattle.base.proofs.Loops.{step, ends}
 use Rattle.base.specs.Loop.{loop}
-use Rattle.speed.proofs.history.reports.Statement.{statement}
-use Rattle.speed.proofs.history.reports.Tie as tie
+use Rattle.pace.proofs.history.reports.Statement.{statement}
+use Rattle.pace.proofs.history.reports.Tie as tie
 
 abbrev Inv-loop : tie.InvT-loop
 Inv-loop edits fresh out₀ kind sheet₀ i₀ out sheet i = (length out ≡ length out₀) × (loop i (length out₀) (reported kind edits fresh) (record { sheet = sheet; out = out }) ≡ loop 0 (length out₀) (reported kind edits fresh) (record { sheet = sheet₀; out = out₀ }))

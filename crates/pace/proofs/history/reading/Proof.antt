@@ -1,12 +1,12 @@
--- `speed::history::reading` meets its contract.
+-- `pace::history::reading` meets its contract.
 use Prim.Native.Nat.{_-_}
 use native.Mathlib.Omega.{arith}
 use lib.ListN.{List·getD-eq-default}
 use lib.Ieee.{nan}
-use Rattle.speed.proofs.Turns.{there}
+use Rattle.pace.proofs.Turns.{there}
 use Rattle.float.specs.Words.{plusZero}
-use Rattle.speed.proofs.history.reading.Statement.{statement}
-use Rattle.speed.proofs.history.reading.Tie as tie
+use Rattle.pace.proofs.history.reading.Statement.{statement}
+use Rattle.pace.proofs.history.reading.Tie as tie
 
 mul-result : tie.Need-mul-result
 mul-result c = omega arith

@@ -5,7 +5,7 @@ ghost use mathlib.Core.Path.{_≡_};
 ghost use lib.ListN.{getD};
 ghost use Rattle.float.specs.Words.{plusZero};
 ghost use Rattle.sheet.specs.Calls.{called};
-ghost use Rattle.speed.specs.Histories.{callWith, reportsOf, historyOf};
+ghost use Rattle.pace.specs.Histories.{callWith, reportsOf, historyOf};
 
 // One edit: 1 replaces, 2 appends, and any other number removes.
 fn edited(s: Sheet, op: u32, group: usize, place: usize, x: f64) -> Sheet

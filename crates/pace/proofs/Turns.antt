@@ -13,7 +13,7 @@ use Rattle.sheet.specs.declared.Sheet.{Sheet}
 use Rattle.sheet.specs.declared.Edit.{Edit}
 use Rattle.sheet.specs.Calls.{callOf, called, reportOf}
 use Rattle.sheet.specs.Calls.Call.{Replace, Append, Remove}
-use Rattle.speed.specs.Histories.{State, callWith, reported, reportsOf, edits}
+use Rattle.pace.specs.Histories.{State, callWith, reported, reportsOf, edits}
 
 -- what a list holds at a place that it has, whatever stands for a missing one
 pub there : {A : Type 0} (l : List A) (i : ℕ) (d e : A) → i < length l → getD l i d ≡ getD l i e

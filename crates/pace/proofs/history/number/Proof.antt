@@ -1,10 +1,10 @@
--- `speed::history::number` meets its contract.
+-- `pace::history::number` meets its contract.
 use Prim.Native.Nat.{_-_}
 use native.Mathlib.Omega.{arith}
 use borrow.Author.Needs.{needs}
 use lib.ListN.{List·getD-eq-default}
-use Rattle.speed.proofs.history.number.Statement.{statement}
-use Rattle.speed.proofs.history.number.Tie as tie
+use Rattle.pace.proofs.history.number.Statement.{statement}
+use Rattle.pace.proofs.history.number.Tie as tie
 
 mul-result : tie.Need-mul-result
 mul-result c = omega arith

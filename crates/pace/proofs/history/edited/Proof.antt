@@ -1,9 +1,9 @@
--- `speed::history::edited` meets its contract.
+-- `pace::history::edited` meets its contract.
 use Prim.Native.Nat.{_-_}
 use borrow.Author.Needs.{needs}
-use Rattle.speed.proofs.Turns.{replaces, appends, removes}
-use Rattle.speed.proofs.history.edited.Statement.{statement}
-use Rattle.speed.proofs.history.edited.Tie as tie
+use Rattle.pace.proofs.Turns.{replaces, appends, removes}
+use Rattle.pace.proofs.history.edited.Statement.{statement}
+use Rattle.pace.proofs.history.edited.Tie as tie
 
 replace-requires : tie.Need-replace-requires
 replace-requires c κs = search needs
