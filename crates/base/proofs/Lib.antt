@@ -1,4 +1,5 @@
 pub mod Loops
+pub mod Walks
 pub mod Folds
 pub mod Cuts
 pub mod Parts
@@ -10,3 +11,4 @@ pub mod Runs
 pub mod Firsts
 pub mod Faults
 pub mod Edits
+pub mod Sizes

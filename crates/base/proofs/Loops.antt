@@ -3,8 +3,9 @@ use Prim.Native.Nat.{ℕ, zero, suc, _+_, _-_, _<_, _≤_}
 use mathlib.Core.Path.{_≡_, refl, ap, _∙_}
 use mathlib.Core.List.{List}
 use native.Mathlib.Omega.{arith}
-use lib.ListN.{length}
+use lib.ListN.{length, length-set}
 use Rattle.base.specs.Loop.{loop, turns}
+use Rattle.base.specs.Lists.{putAt, listed}
 
 module _ {S : Type 0} where
   pub turn : (i n : ℕ) (f : ℕ → S → S) (s : S) → i < n → loop i n f s ≡ loop (i + 1) n f (f i s)
@@ -54,3 +55,7 @@ module _ {A : Type 0} where
   pub loop-length : (i n : ℕ) (f : ℕ → List A → List A) → ((j : ℕ) (m : List A) → length (f j m) ≡ length m) → (m : List A) → length (loop i n f m) ≡ length m
   unfolding loop
   loop-length i n f k m = turns-length f k (n - i) i m
+
+  pub listed-length : (n : ℕ) (f : ℕ → A) (out : List A) → length (listed n f out) ≡ length out
+  unfolding listed
+  listed-length n f out = loop-length 0 n (putAt f) (λ i m. length-set m i (f i)) out

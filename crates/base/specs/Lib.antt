@@ -2,3 +2,4 @@ pub mod Limits
 pub mod Refusals
 pub mod Loop
 pub mod Lists
+pub mod Sizes

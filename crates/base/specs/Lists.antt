@@ -1,7 +1,8 @@
--- Words for lists: sums of sizes, a list cut into groups, one list laid over another, a part of a list.
+-- Words for lists: sums of sizes, a list cut into groups, one list laid over another, a part of a list, places filled one by one.
 use Prim.Native.Nat.{ℕ, _+_}
 use mathlib.Core.List.{List, [], _∷_, _++_}
-use lib.ListN.{length, take, drop, replicate}
+use lib.ListN.{length, take, drop, set, replicate}
+use Rattle.base.specs.Loop.{loop}
 
 -- the sum of these sizes
 unfoldable pub total : List ℕ → ℕ
@@ -30,3 +31,10 @@ module _ {A : Type 0} where
   -- the list in k words of w elements each
   abbrev pub words : ℕ → ℕ → List A → List (List A)
   words w k xs = cut (replicate k w) xs
+
+  -- f 0, f 1, .. in the first n places of `out`
+  abbrev pub putAt : (ℕ → A) → ℕ → List A → List A
+  putAt f i out = set out i (f i)
+
+  unfoldable pub listed : ℕ → (ℕ → A) → List A → List A
+  listed n f out = loop 0 n (putAt f) out

@@ -8,45 +8,36 @@ use lib.Dec.{ltb, leb, eqb}
 use lib.Ieee.{Float}
 use lib.ListN.{length, take, drop, getD}
 use Rattle.base.specs.Lists.{total, cut}
-use Rattle.base.specs.Refusals.{refuse, when, unless, _orElse_}
+use Rattle.base.specs.Refusals.{refuse, when, _orElse_}
+use Rattle.base.specs.Sizes.{Sized, sizesRefusal}
+use Rattle.base.proofs.Sizes.{sized}
 use Rattle.base.proofs.Order.{both-passed, no-fault, needed-there}
 use Rattle.base.proofs.Cuts.{total-split, total-turn}
 use Rattle.stats.specs.Sums.{hasNan}
-use Rattle.door.specs.Checks.{Sized, Passed, sizesRefusal, groupFault, groupsRefusal, oneWayRefusal, viewRefusal}
-
-pub sized : (xs : List Float) (ns : List ℕ) → sizesRefusal xs ns .number ≡ 0 → Sized xs ns
-unfolding sizesRefusal
-sized xs ns h =
-    let p = both-passed (when (ltb 16 (length ns)) (refuse 11 1 (length ns))) _ h in
-    let q = both-passed (when (ltb 512 (length xs)) (refuse 11 2 (length xs))) _ (p .1) in
-    record {
-      groups = ltb-false 16 (length ns) (no-fault (ltb 16 (length ns)) (refuse 11 1 (length ns)) (eqb-false 11 0 refl) (p .0));
-      readings = ltb-false 512 (length xs) (no-fault (ltb 512 (length xs)) (refuse 11 2 (length xs)) (eqb-false 11 0 refl) (q .0));
-      adds = eqb-true (total ns) (length xs) (needed-there (eqb (total ns) (length xs)) (refuse 10 (total ns) (length xs)) (eqb-false 10 0 refl) (q .1));
-    }
+use Rattle.door.specs.Checks.{Passed, groupFault, groupsRefusal, oneWayRefusal, viewRefusal}
 
 pub passed : (xs : List Float) (ns : List ℕ) → oneWayRefusal xs ns .number ≡ 0 → Passed xs ns
 unfolding oneWayRefusal
 passed xs ns h =
-    let p = both-passed (sizesRefusal xs ns) _ h in
+    let p = both-passed (sizesRefusal 16 1 (length xs) ns) _ h in
     let q = both-passed (when (ltb (length ns) 2) (refuse 3 (length ns) 0)) (groupsRefusal 1 (cut ns xs)) (p .1) in
     record {
-      sizes = sized xs ns (p .0);
+      sizes = sized 16 1 (length xs) ns (p .0);
       two = ltb-false (length ns) 2 (no-fault (ltb (length ns) 2) (refuse 3 (length ns) 0) (eqb-false 3 0 refl) (q .0));
       fine = q .1;
     }
 
 -- a view that is not refused: its group is there, and ends within the readings
 pub record Viewed (xs : List Float) (ns : List ℕ) (g : ℕ) : Type 0 where
-  pub sizes : Sized xs ns
+  pub sizes : Sized 16 (length xs) ns
   pub there : g < length ns
   pub ends : total (take g ns) + getD ns g 0 ≤ length xs
 
 pub viewed : (xs : List Float) (ns : List ℕ) (g : ℕ) → viewRefusal xs ns g .number ≡ 0 → Viewed xs ns g
 unfolding viewRefusal
 viewed xs ns g h =
-    let p = both-passed (sizesRefusal xs ns) (when (leb (length ns) g) (refuse 14 g 0)) h in
-    let s = sized xs ns (p .0) in
+    let p = both-passed (sizesRefusal 16 1 (length xs) ns) (when (leb (length ns) g) (refuse 14 g 0)) h in
+    let s = sized 16 1 (length xs) ns (p .0) in
     let t : g < length ns = leb-false (length ns) g (no-fault (leb (length ns) g) (refuse 14 g 0) (eqb-false 14 0 refl) (p .1)) in
     record { sizes = s; there = t; ends = omega (arith, total-split ns g, total-turn ns g t) }
 

@@ -2,21 +2,15 @@
 use Prim.Native.Nat.{ℕ, _+_, _≤_}
 use mathlib.Core.Path.{_≡_}
 use mathlib.Core.List.{List, [], _∷_}
-use lib.Dec.{ltb, eqb, leb}
+use lib.Dec.{ltb, leb}
 use lib.Ieee.{Float}
 use lib.ListN.{length, getD}
 use Rattle.base.specs.declared.Refusal.{Refusal}
-use Rattle.base.specs.Limits.{mostGroups, mostReadings}
-use Rattle.base.specs.Lists.{total, cut}
-use Rattle.base.specs.Refusals.{refuse, none, when, unless, _orElse_, guarded}
+use Rattle.base.specs.Limits.{mostGroups}
+use Rattle.base.specs.Lists.{cut}
+use Rattle.base.specs.Refusals.{refuse, none, when, _orElse_, guarded}
+use Rattle.base.specs.Sizes.{Sized, sizesRefusal}
 use Rattle.stats.specs.Sums.{hasNan}
-
--- too many groups, too many readings, sizes that do not add up
-unfoldable pub sizesRefusal : List Float → List ℕ → Refusal
-sizesRefusal xs ns =
-    when (ltb mostGroups (length ns)) (refuse 11 1 (length ns))
-    orElse when (ltb mostReadings (length xs)) (refuse 11 2 (length xs))
-    orElse unless (eqb (total ns) (length xs)) (refuse 10 (total ns) (length xs))
 
 -- group number k, counted from 1: fewer than two readings, or a NaN
 unfoldable pub groupFault : ℕ → List Float → Refusal
@@ -32,14 +26,14 @@ groupsRefusal k (group ∷ groups) = groupFault k group orElse groupsRefusal (k 
 -- all the one-way checks
 unfoldable pub oneWayRefusal : List Float → List ℕ → Refusal
 oneWayRefusal xs ns =
-    sizesRefusal xs ns
+    sizesRefusal mostGroups 1 (length xs) ns
     orElse when (ltb (length ns) 2) (refuse 3 (length ns) 0)
     orElse groupsRefusal 1 (cut ns xs)
 
 -- the view of group g, counted from 0: the sizes' checks, then no such group
 unfoldable pub viewRefusal : List Float → List ℕ → ℕ → Refusal
 viewRefusal xs ns g =
-    sizesRefusal xs ns
+    sizesRefusal mostGroups 1 (length xs) ns
     orElse when (leb (length ns) g) (refuse 14 g 0)
 
 abbrev pub noReadings : Refusal → List Float
@@ -49,14 +43,8 @@ noReadings r = []
 unfoldable pub viewOf : List Float → List ℕ → ℕ → List Float
 viewOf xs ns g = guarded (viewRefusal xs ns g) noReadings (getD (cut ns xs) g [])
 
--- what the checks of the sizes leave known
-pub record Sized (xs : List Float) (ns : List ℕ) : Type 0 where
-  pub groups : length ns ≤ mostGroups
-  pub readings : length xs ≤ mostReadings
-  pub adds : total ns ≡ length xs
-
 -- what all the one-way checks leave known: also, that there are two groups, and two readings in each
 pub record Passed (xs : List Float) (ns : List ℕ) : Type 0 where
-  pub sizes : Sized xs ns
+  pub sizes : Sized mostGroups (length xs) ns
   pub two : 2 ≤ length ns
   pub fine : groupsRefusal 1 (cut ns xs) .number ≡ 0

@@ -4,40 +4,10 @@ ghost use mathlib.Core.Path.{_≡_};
 ghost use mathlib.Core.Bool.{false};
 ghost use Prim.Native.Nat.{_≤_};
 ghost use lib.ListN.{length};
-ghost use Rattle.base.specs.Lists.{total, cut};
+ghost use Rattle.base.specs.Lists.{cut};
+ghost use Rattle.base.specs.Sizes.{Sized};
 ghost use Rattle.stats.specs.Sums.{hasNan};
-ghost use Rattle.door.specs.Checks.{Sized, sizesRefusal, groupFault, groupsRefusal, oneWayRefusal, viewRefusal, viewOf};
-
-// The sum of the sizes. It has 64 bits, so that 16 sizes of 32 bits cannot wrap.
-fn total_of(sizes: &[u32]) -> u64
-    requires { ⌜ length (now sizes) ≤ 16 ⌝ }
-    ensures { λ r. ⌜ r ≡ total (now (sizes .entry)) ⌝ }
-{
-    let mut t: u64 = 0;
-    let mut g = 0;
-    while g < sizes.len() {
-        t += sizes[g] as u64;
-        g += 1;
-    }
-    t
-}
-
-// Too many groups, too many readings, sizes that do not add up.
-fn sizes_refusal(readings: &[f64], sizes: &[u32]) -> Refusal
-    ensures { λ r. ⌜ r ≡ sizesRefusal (now (readings .entry)) (now (sizes .entry)) ⌝ }
-{
-    if base::MOST_GROUPS < sizes.len() {
-        return Refusal::new(11, 1, sizes.len() as u64);
-    }
-    if base::MOST_READINGS < readings.len() {
-        return Refusal::new(11, 2, readings.len() as u64);
-    }
-    let needed = total_of(sizes);
-    if needed != readings.len() as u64 {
-        return Refusal::new(10, needed, readings.len() as u64);
-    }
-    Refusal::none()
-}
+ghost use Rattle.door.specs.Checks.{groupFault, groupsRefusal, oneWayRefusal, viewRefusal, viewOf};
 
 // Group number k, counted from 1: fewer than two readings, or a NaN, for which it looks only where `nans` says that there may be one.
 fn group_fault(group: &[f64], k: u64, nans: bool) -> Refusal
@@ -58,7 +28,7 @@ fn group_fault(group: &[f64], k: u64, nans: bool) -> Refusal
 
 // The first group that has a fault. Where no reading is a NaN, the groups are not searched for one.
 fn groups_refusal(readings: &[f64], sizes: &[u32]) -> Refusal
-    requires { ⌜ Sized (now readings) (now sizes) ⌝ }
+    requires { ⌜ Sized 16 (length (now readings)) (now sizes) ⌝ }
     ensures { λ r. ⌜ r ≡ groupsRefusal 1 (cut (now (sizes .entry)) (now (readings .entry))) ⌝ }
 {
     let nans = stats::has_nan(readings);
@@ -80,7 +50,7 @@ fn groups_refusal(readings: &[f64], sizes: &[u32]) -> Refusal
 pub fn one_way_refusal(readings: &[f64], sizes: &[u32]) -> Refusal
     ensures { λ r. ⌜ r ≡ oneWayRefusal (now (readings .entry)) (now (sizes .entry)) ⌝ }
 {
-    let r = sizes_refusal(readings, sizes);
+    let r = base::sizes_refusal(readings.len(), sizes, base::MOST_GROUPS as u32, 1);
     if r.number != 0 {
         return r;
     }
@@ -94,9 +64,9 @@ pub fn one_way_refusal(readings: &[f64], sizes: &[u32]) -> Refusal
 pub fn group_refusal(readings: &[f64], sizes: &[u32], g: usize) -> Refusal
     ensures { λ r. ⌜ r ≡ viewRefusal (now (readings .entry)) (now (sizes .entry)) g ⌝ }
 {
-    let r = sizes_refusal(readings, sizes);
-    if r.number != 0 {
-        return r;
+    let unfit = base::sizes_refusal(readings.len(), sizes, base::MOST_GROUPS as u32, 1);
+    if unfit.number != 0 {
+        return unfit;
     }
     if sizes.len() <= g {
         return Refusal::new(14, g as u64, 0);
@@ -112,7 +82,7 @@ pub fn group<'a>(readings: &'a [f64], sizes: &[u32], g: usize) -> &'a [f64]
     if r.number != 0 {
         return &readings[0..0];
     }
-    let at = total_of(&sizes[..g]) as usize;
+    let at = base::total_of(sizes, g as u32) as usize;
     let end = at + sizes[g] as usize;
     &readings[at..end]
 }

@@ -11,7 +11,6 @@ ghost use Rattle.eigen.specs.Product.{matrixMultiplyCsc};
 ghost use Rattle.eigen.specs.Qr.{qrDecomposition};
 ghost use Rattle.eigen.specs.Values.{computeEigenvalues};
 use orthonormal::orthonormal_rows;
-use places::canon_places;
 use places::refuses;
 use places::wipe;
 use product::product;
@@ -33,7 +32,7 @@ pub fn orthonormalize(c: &mut [f64], p: usize, k: usize) -> bool
         return false;
     }
     orthonormal_rows(c, p, k);
-    canon_places(c, p * k);
+    float::canon_places(c, p * k);
     true
 }
 
@@ -54,7 +53,7 @@ pub fn matrix_multiply_csc(c: &[f64], s: &[f64], p: usize, k: usize, out: &mut [
     let mut cs = [0.0; 132];
     product(c, s, 1, k, p, k, k, &mut cs);
     product(&cs, c, k, 1, p, k, p, out);
-    canon_places(out, p * p);
+    float::canon_places(out, p * p);
     true
 }
 
@@ -75,8 +74,8 @@ pub fn qr_decomposition(a: &[f64], n: usize, q: &mut [f64], r: &mut [f64]) -> bo
     wipe(q, n * n);
     wipe(r, n * n);
     qr_columns(a, n, q, r);
-    canon_places(q, n * n);
-    canon_places(r, n * n);
+    float::canon_places(q, n * n);
+    float::canon_places(r, n * n);
     true
 }
 
@@ -92,7 +91,7 @@ pub fn compute_eigenvalues(m: &mut [f64], n: usize, values: &mut [f64]) -> bool
         return false;
     }
     rounds(m, n);
-    canon_places(m, n * n);
+    float::canon_places(m, n * n);
     diagonal(m, n, values);
     true
 }

@@ -54,13 +54,3 @@ pub fn wipe(m: &mut [f64], k: usize)
         m[j] = 0.0;
     }
 }
-
-// Each of the first k places is left as it is. A NaN in them gets the bits 7FF8000000000000, which no contract can say.
-pub fn canon_places(m: &mut [f64], k: usize)
-    requires { ⌜ k ≤ length (now m) ⌝ }
-    ensures { λ _. ⌜ now (m .exit) ≡ now (m .entry) ⌝ }
-{
-    for j in 0..k {
-        m[j] = float::canon(m[j]);
-    }
-}

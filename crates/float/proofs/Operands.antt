@@ -1,8 +1,8 @@
--- Document 01's words on `min`, `max` and `clamp`.
+-- Document 01's words on `min`, `max` and `clamp`, and what `is_finite` tests.
 use mathlib.Core.Path.{_≡_, refl}
-use lib.Ieee.{Float, nan, inf, fin, isNan, lt, neg, ofBits}
-use Rattle.float.specs.Words.{plusZero, minusZero, one}
-use Rattle.float.specs.Singles.{leastOf, greatestOf, clampOf}
+use lib.Ieee.{Float, nan, inf, fin, isNan, lt, neg, div, ofBits}
+use Rattle.float.specs.Words.{_⊘_, plusZero, minusZero, one}
+use Rattle.float.specs.Singles.{absOf, isFinite, leastOf, greatestOf, clampOf}
 
 -- One NaN gives the other operand.
 pub least-of-nan : (x : Float) → (leastOf nan x ≡ x) × (leastOf x nan ≡ x)
@@ -36,3 +36,10 @@ clamp-keeps-nan low (fin s m e) = refl
 pub clamp-keeps-minus-zero : clampOf minusZero plusZero one ≡ minusZero
 unfolding clampOf lt neg ofBits
 clamp-keeps-minus-zero = refl
+
+-- the numbers are those whose absolute value is below infinity
+pub below-infinity : (x : Float) → lt (absOf x) (one ⊘ plusZero) ≡ isFinite x
+unfolding isFinite absOf lt div ofBits
+below-infinity nan = refl
+below-infinity (inf s) = refl
+below-infinity (fin s m e) = refl

@@ -2,7 +2,7 @@
 -- `to_bits` and `from_bits` are not here: they are `toBits` and `ofBits` of `lib.Ieee`, which writes 7FF8000000000000 for a NaN.
 use Prim.Native.Nat.{ℕ, zero, suc, _/_, _%_}
 use mathlib.Core.Path.{_≡_, refl}
-use mathlib.Core.Bool.{false, cond}
+use mathlib.Core.Bool.{Bool, true, false, cond}
 use lib.Dec.{eqb}
 use lib.Ieee.{Float, nan, inf, fin, mul, lt, isNan, ofBits, ofInt}
 use Rattle.float.specs.Words.{_⊗_, count, one}
@@ -12,6 +12,12 @@ unfoldable pub absOf : Float → Float
 absOf nan = nan
 absOf (inf s) = inf false
 absOf (fin s m e) = fin false m e
+
+-- `x.is_finite()`: neither infinite nor a NaN.
+unfoldable pub isFinite : Float → Bool
+isFinite nan = false
+isFinite (inf s) = false
+isFinite (fin s m e) = true
 
 -- `a.min(b)`: one NaN gives the other operand. Of two equal operands, as the two zeros are, the first is taken.
 unfoldable pub leastOf : Float → Float → Float

@@ -1,13 +1,25 @@
 // Words for single floats that the source takes from its standard library.
 ghost use mathlib.Core.Path.{_≡_};
 ghost use lib.Ieee.{binary64, ofBits, toBits};
-ghost use Rattle.float.specs.Singles.{absOf, leastOf, greatestOf, clampOf, powerOf};
+ghost use Rattle.float.specs.Singles.{absOf, isFinite, leastOf, greatestOf, clampOf, powerOf};
 
 // x itself. A NaN leaves with the bits 7FF8000000000000, which no contract can say: the model has one NaN.
 pub fn canon(x: f64) -> f64
     ensures { λ r. ⌜ r ≡ x ⌝ }
 {
     if x != x { 0.0 / 0.0 } else { x }
+}
+
+// Each of the first k places is left as it is. A NaN in them gets those bits too. Where there are not k places, nothing is done.
+pub fn canon_places(m: &mut [f64], k: usize)
+    ensures { λ _. ⌜ now (m .exit) ≡ now (m .entry) ⌝ }
+{
+    if m.len() < k {
+        return;
+    }
+    for j in 0..k {
+        m[j] = canon(m[j]);
+    }
 }
 
 // `x.abs()`: the sign bit is cleared. Bits are read only where x is no NaN, so a NaN leaves as `canon` would leave it.
@@ -18,6 +30,13 @@ pub fn abs(x: f64) -> f64
         return 0.0 / 0.0;
     }
     f64::from_bits(f64::to_bits(x) % 0x8000000000000000)
+}
+
+// `x.is_finite()`: neither infinite nor a NaN.
+pub fn is_finite(x: f64) -> bool
+    ensures { λ r. ⌜ r ≡ isFinite x ⌝ }
+{
+    abs(x) < 1.0 / 0.0
 }
 
 // `a.min(b)`. Only b can leave as a NaN, and only where both are one: what a comparison picked is none.

@@ -8,7 +8,7 @@ use lib.Ieee.{Float, lt}
 use Rattle.base.proofs.Bounds.{then-of, else-of}
 use Rattle.float.specs.Singles.{absOf}
 use Rattle.linear.specs.Rows.{at, better, pivotRow}
-use Rattle.linear.proofs.Walks.{walks}
+use Rattle.base.proofs.Walks.{walks}
 
 either-lt : (b : Bool) (x y n : ℕ) → x < n → y < n → cond b x y < n
 either-lt true x y n h k = h

@@ -12,7 +12,7 @@ use lib.Ieee.Fits.{down-pos}
 use lib.Ieee.Positive.{through}
 use Rattle.float.specs.Singles.{absOf}
 use Rattle.linear.specs.Rows.{at, better, pivotRow}
-use Rattle.linear.proofs.Walks.{walks}
+use Rattle.base.proofs.Walks.{walks}
 
 -- what did not beat a does not beat what beat a
 pub not-beaten : (a b c : Float) → lt (absOf a) (absOf b) ≡ true → lt (absOf a) (absOf c) ≡ false → lt (absOf b) (absOf c) ≡ false

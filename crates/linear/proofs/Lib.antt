@@ -1,4 +1,3 @@
-pub mod Walks
 pub mod Places
 pub mod Candidates
 pub mod Largest

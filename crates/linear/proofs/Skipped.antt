@@ -8,7 +8,7 @@ use Rattle.linear.specs.Rows.{pivoted}
 use Rattle.linear.specs.System.{column}
 use Rattle.linear.specs.Inverse.{unit, fullColumn}
 use Rattle.linear.specs.Skips.{beforeColumn, skippedIn, skippedColumn, skippedInverse}
-use Rattle.linear.proofs.Walks.{last-turn}
+use Rattle.base.proofs.Walks.{last-turn}
 use Rattle.linear.proofs.Columns.{column-skipped, full-skipped}
 
 -- the matrix before column col + 1 is that before column col after one column more

@@ -16,7 +16,7 @@ use Rattle.float.specs.Singles.{absOf}
 use Rattle.linear.specs.Rows.{at, swapAt, swapRows, lessAt, lessRow, pivotRow, pivoted, skips, clearRow, clearBelow}
 use Rattle.linear.specs.System.{cleared, column, forward}
 use Rattle.linear.specs.Skips.{beforeColumn, skippedIn, skippedColumn}
-use Rattle.linear.proofs.Walks.{walks}
+use Rattle.base.proofs.Walks.{walks}
 use Rattle.linear.proofs.Places.{other-row}
 use Rattle.linear.proofs.Candidates.{pivot-from}
 use Rattle.linear.proofs.Skipped.{next-column}

@@ -13,7 +13,6 @@ ghost use Rattle.linear.specs.Determinant.{matrixDeterminant};
 use determinant::det_of;
 use inverse::full_columns;
 use inverse::unit;
-use rows::canon_places;
 use system::backward;
 use system::forward;
 
@@ -33,7 +32,7 @@ pub fn solve_linear_system(m: &mut [f64], n: usize) -> bool
     }
     forward(m, n, n + 1);
     backward(m, n);
-    canon_places(m, n * (n + 1));
+    float::canon_places(m, n * (n + 1));
     true
 }
 
@@ -50,7 +49,7 @@ pub fn matrix_inverse(m: &mut [f64], n: usize) -> bool
     }
     unit(m, n);
     full_columns(m, n, 2 * n);
-    canon_places(m, n * (2 * n));
+    float::canon_places(m, n * (2 * n));
     true
 }
 
@@ -66,6 +65,6 @@ pub fn matrix_determinant(m: &mut [f64], n: usize) -> f64
         return 0.0 / 0.0;
     }
     let d = det_of(m, n);
-    canon_places(m, n * n);
+    float::canon_places(m, n * n);
     float::canon(d)
 }

@@ -40,13 +40,3 @@ pub fn over_row(m: &mut [f64], w: usize, r: usize, d: f64)
         m[p + j] /= d;
     }
 }
-
-// Each of the first k places is left as it is. A NaN in them gets the bits 7FF8000000000000, which no contract can say.
-pub fn canon_places(m: &mut [f64], k: usize)
-    requires { ⌜ k ≤ length (now m) ⌝ }
-    ensures { λ _. ⌜ now (m .exit) ≡ now (m .entry) ⌝ }
-{
-    for j in 0..k {
-        m[j] = float::canon(m[j]);
-    }
-}

@@ -5,8 +5,8 @@ use mathlib.Core.Bool.{Bool, false, cond}
 use mathlib.Core.List.{List, [], foldl}
 use lib.Dec.{leb, ltb}
 use lib.Ieee.{Float, nan}
-use lib.ListN.{length, getD, set, take, replicate}
-use Rattle.base.specs.Lists.{total, cut}
+use lib.ListN.{length, getD, take, replicate}
+use Rattle.base.specs.Lists.{total, cut, listed}
 use Rattle.base.specs.Loop.{loop}
 use Rattle.float.specs.Words.{_⊕_, _⊘_, plusZero, one}
 use Rattle.stats.specs.Sums.{addBy, sqDist, meanOf}
@@ -29,13 +29,6 @@ lineStep cs s d q t = foldl tally t (cellAt cs (s + q * d))
 
 unfoldable pub tallyLine : List (List Float) → ℕ → ℕ → ℕ → Tally
 tallyLine cs s d n = loop 0 n (lineStep cs s d) nothing
-
--- f 0, f 1, .. in the first n places of `out`
-abbrev pub putAt : (ℕ → Float) → ℕ → List Float → List Float
-putAt f i out = set out i (f i)
-
-unfoldable pub listed : ℕ → (ℕ → Float) → List Float → List Float
-listed n f out = loop 0 n (putAt f) out
 
 unfoldable pub noLevels : List Float
 noLevels = replicate 6 plusZero

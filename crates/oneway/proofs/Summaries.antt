@@ -74,7 +74,7 @@ lined rs h = record { few = h; sizes = omega (arith, over-long (map sizeOf rs) n
 
 -- a summary of groups that passed the checks
 pub lined-groups : (xs : List Float) (ns : List ℕ) → Passed xs ns → (s : Summary) → s ≡ summaryOf (map rowOf (cut ns xs)) → Lined s
-lined-groups xs ns p s e = rw e (lined (map rowOf (cut ns xs)) (rw (length-map (cut ns xs) rowOf, length-cut ns xs) (p .sizes .groups)))
+lined-groups xs ns p s e = rw e (lined (map rowOf (cut ns xs)) (rw (length-map (cut ns xs) rowOf, length-cut ns xs) (p .sizes .rows)))
 
 -- rows that the caller holds: few enough, and their summary has a line for each
 module _ (k : ℕ) (rows : List Row) (z : soundRefusal k rows .number ≡ 0) where

@@ -15,7 +15,8 @@ use Rattle.base.specs.Refusals.{refuse, none, when, _orElse_}
 use Rattle.base.proofs.Cuts.{length-cut, flatten-cut, cut-flatten, total-flatten}
 use Rattle.base.proofs.Order.{both-passed, no-fault}
 use Rattle.stats.specs.Sums.{hasNan}
-use Rattle.door.specs.Checks.{sizesRefusal, groupFault, groupsRefusal, oneWayRefusal}
+use Rattle.base.specs.Sizes.{sizesRefusal}
+use Rattle.door.specs.Checks.{groupFault, groupsRefusal, oneWayRefusal}
 use Rattle.groups.specs.Soundness.{someOutside}
 use Rattle.groups.proofs.Counted.{not-outside}
 use Rattle.door.proofs.Doors.{passed, two-there}
@@ -109,7 +110,7 @@ loaded-good xs ns z =
     let a = p .sizes .adds in
     record {
       few = rw (length-cut ns xs) (p .two);
-      many = rw (length-cut ns xs) (p .sizes .groups);
+      many = rw (length-cut ns xs) (p .sizes .rows);
       fits = rw (flatten-cut ns xs, length-take-le (total ns) xs (omega arith)) (omega (arith, p .sizes .readings));
       clean = passed-clean 1 (cut ns xs) (p .fine);
     }

@@ -12,25 +12,16 @@ use lib.ListN.{length, take, drop, getD, replicate, length-drop}
 use lib.Seq.{length-take-le}
 use Rattle.base.specs.Lists.{total, cut}
 use Rattle.base.specs.Refusals.{refuse, when, unless, _orElse_}
+use Rattle.base.specs.Sizes.{sizesRefusal}
+use Rattle.base.proofs.Sizes.{sized}
 use Rattle.base.proofs.Order.{both-passed, no-fault, needed-there}
 use Rattle.stats.specs.Sums.{hasNan}
-use Rattle.subjects.specs.Checks.{Sized, Passed, conditions, sizesRefusal, designRefusal, subjectFault, subjectsRefusal, repeatedRefusal}
+use Rattle.subjects.specs.Checks.{Passed, conditions, designRefusal, subjectFault, subjectsRefusal, repeatedRefusal}
 
 -- no subjects, no conditions
 pub none-first : (ns : List ℕ) → length ns ≡ 0 → 0 ≡ conditions ns
 none-first [] e = refl
 none-first (n ∷ ns) e = absurd (omega (arith, e))
-
-pub sized : (xs : List Float) (ns : List ℕ) → sizesRefusal xs ns .number ≡ 0 → Sized xs ns
-unfolding sizesRefusal
-sized xs ns h =
-    let p = both-passed (when (ltb 64 (length ns)) (refuse 11 3 (length ns))) _ h in
-    let q = both-passed (when (ltb 512 (length xs)) (refuse 11 2 (length xs))) _ (p .1) in
-    record {
-      subjects = ltb-false 64 (length ns) (no-fault (ltb 64 (length ns)) (refuse 11 3 (length ns)) (eqb-false 11 0 refl) (p .0));
-      readings = ltb-false 512 (length xs) (no-fault (ltb 512 (length xs)) (refuse 11 2 (length xs)) (eqb-false 11 0 refl) (q .0));
-      adds = eqb-true (total ns) (length xs) (needed-there (eqb (total ns) (length xs)) (refuse 10 (total ns) (length xs)) (eqb-false 10 0 refl) (q .1));
-    }
 
 -- the bounds of a design
 abbrev Bounds : ℕ → ℕ → Type 0
@@ -91,16 +82,16 @@ total-replicate (suc n) k = omega (arith, total-replicate n k, suc-mul n k)
 pub passed : (xs : List Float) (ns : List ℕ) → repeatedRefusal xs ns .number ≡ 0 → Passed xs ns (length ns) (conditions ns)
 unfolding repeatedRefusal
 passed xs ns h =
-    let p = both-passed (sizesRefusal xs ns) _ h in
+    let p = both-passed (sizesRefusal 64 3 (length xs) ns) _ h in
     let q = both-passed (designRefusal (length ns) (conditions ns)) (subjectsRefusal (conditions ns) 1 (cut ns xs)) (p .1) in
-    let s = sized xs ns (p .0) in
+    let s = sized 64 3 (length xs) ns (p .0) in
     let b = bounds (length ns) (conditions ns) (q .0) in
     let r = rows-fine (conditions ns) 1 ns xs (s .adds) (q .1) in
     record {
       subjects = refl;
       conditions = refl;
       lowN = b .1;
-      highN = s .subjects;
+      highN = s .rows;
       lowK = b .2;
       highK = b .0;
       few = s .readings;

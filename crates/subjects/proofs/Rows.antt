@@ -5,12 +5,12 @@ use Prim.Native.Nat.{ℕ, _+_, _*_, _-_, _≤_, _<_}
 use native.Mathlib.Nat.{add-sub-cancel-left}
 use native.Mathlib.Omega.{arith}
 use lib.Ieee.{Float}
-use lib.ListN.{length, take, drop, length-set}
+use lib.ListN.{length, take, drop}
 use lib.Seq.{length-take-le}
 use Rattle.base.specs.Lists.{part}
 use Rattle.base.proofs.Bounds.{product-le, row-end}
-use Rattle.base.proofs.Loops.{loop-length}
-use Rattle.subjects.specs.Table.{Fitting, putAt, listed, noSubjects, noConditions, subjectMean, subjectMeans, conditionMean, conditionMeans}
+use Rattle.base.proofs.Loops.{listed-length}
+use Rattle.subjects.specs.Table.{Fitting, noSubjects, noConditions, subjectMean, subjectMeans, conditionMean, conditionMeans}
 
 module _ (xs : List Float) (n k : ℕ) (f : Fitting xs n k) where
   pub few-readings : length xs ≤ 768
@@ -23,10 +23,6 @@ module _ (xs : List Float) (n k : ℕ) (f : Fitting xs n k) where
 pub row-part : (at k : ℕ) (xs : List Float) → take (at + k - at) (drop at xs) ≡ part at k xs
 unfolding part
 row-part at k xs = rw add-sub-cancel-left
-
-listed-length : (n : ℕ) (f : ℕ → Float) (out : List Float) → length (listed n f out) ≡ length out
-unfolding listed
-listed-length n f out = loop-length 0 n (putAt f) (λ i m. length-set m i (f i)) out
 
 -- the first n of the subjects' means are n, and the first k of the conditions' are k
 pub subjects-taken : (m : ℕ) (out xs : List Float) (n k : ℕ) → m ≤ 64 → out ≡ subjectMeans xs n k → m ≡ length (take m out)

@@ -8,20 +8,14 @@ use lib.Ieee.{Float}
 use lib.ListN.{length, getD, replicate}
 use Rattle.base.specs.declared.Refusal.{Refusal}
 use Rattle.base.specs.Limits.{mostSubjects, mostConditions, mostReadings}
-use Rattle.base.specs.Lists.{total, cut}
+use Rattle.base.specs.Lists.{cut}
 use Rattle.base.specs.Refusals.{refuse, none, when, unless, _orElse_}
+use Rattle.base.specs.Sizes.{sizesRefusal}
 use Rattle.stats.specs.Sums.{hasNan}
 
 -- the conditions are the first subject's readings; 0 where there is no subject
 abbrev pub conditions : List ℕ → ℕ
 conditions ns = getD ns 0 0
-
--- too many subjects, too many readings, sizes that do not add up
-unfoldable pub sizesRefusal : List Float → List ℕ → Refusal
-sizesRefusal xs ns =
-    when (ltb mostSubjects (length ns)) (refuse 11 3 (length ns))
-    orElse when (ltb mostReadings (length xs)) (refuse 11 2 (length xs))
-    orElse unless (eqb (total ns) (length xs)) (refuse 10 (total ns) (length xs))
 
 -- n subjects and k conditions: too many conditions, too few subjects, too few conditions
 unfoldable pub designRefusal : ℕ → ℕ → Refusal
@@ -44,15 +38,9 @@ subjectsRefusal k i (row ∷ rows) = subjectFault k i row orElse subjectsRefusal
 -- all the checks
 unfoldable pub repeatedRefusal : List Float → List ℕ → Refusal
 repeatedRefusal xs ns =
-    sizesRefusal xs ns
+    sizesRefusal mostSubjects 3 (length xs) ns
     orElse designRefusal (length ns) (conditions ns)
     orElse subjectsRefusal (conditions ns) 1 (cut ns xs)
-
--- what the checks of the sizes leave known
-pub record Sized (xs : List Float) (ns : List ℕ) : Type 0 where
-  pub subjects : length ns ≤ mostSubjects
-  pub readings : length xs ≤ mostReadings
-  pub adds : total ns ≡ length xs
 
 -- what all the checks leave known of xs, of n subjects and k conditions
 pub record Passed (xs : List Float) (ns : List ℕ) (n k : ℕ) : Type 0 where

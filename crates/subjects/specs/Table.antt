@@ -5,20 +5,13 @@ use mathlib.Core.Bool.{cond}
 use mathlib.Core.List.{List}
 use lib.Dec.{ltb, eqb}
 use lib.Ieee.{Float, nan}
-use lib.ListN.{length, getD, set, take, replicate}
+use lib.ListN.{length, getD, take, replicate}
 use Rattle.base.specs.Limits.{mostSubjects, mostConditions}
-use Rattle.base.specs.Lists.{part}
+use Rattle.base.specs.Lists.{part, listed}
 use Rattle.base.specs.Loop.{loop}
 use Rattle.float.specs.Words.{_⊕_, _⊖_, _⊗_, _⊘_, count, plusZero, minusZero}
 use Rattle.stats.specs.Sums.{sum, sqDev}
 use Rattle.subjects.specs.declared.RmTable.{RmTable}
-
--- f 0, f 1, .. in the first n places of `out`
-abbrev pub putAt : (ℕ → Float) → ℕ → List Float → List Float
-putAt f i out = set out i (f i)
-
-unfoldable pub listed : ℕ → (ℕ → Float) → List Float → List Float
-listed n f out = loop 0 n (putAt f) out
 
 unfoldable pub noSubjects : List Float
 noSubjects = replicate mostSubjects plusZero

@@ -6,12 +6,13 @@ use lib.Ieee.{Float, nan, isNan, ofBits, ofInt, add, sub, mul, div, neg}
 use lib.ListN.{take, replicate}
 use Rattle.base.specs.Lists.{total, cut}
 use Rattle.base.specs.Refusals.{refuse, none}
+use Rattle.base.specs.Sizes.{sizesRefusal}
 use Rattle.float.specs.Words.{count, bits, plusZero}
 use Rattle.stats.specs.Sums.{sumBy, hasNan}
 use Rattle.base.specs.Loop.{loop, turns}
-use Rattle.base.specs.Lists.{part}
-use Rattle.subjects.specs.Checks.{sizesRefusal, designRefusal, subjectFault, subjectsRefusal, repeatedRefusal}
-use Rattle.subjects.specs.Table.{listed, noSubjects, noConditions, grandMean, subjectMeans, conditionSum, conditionMeans, ssTotal, ssSubjects, ssConditions, ssError}
+use Rattle.base.specs.Lists.{part, listed}
+use Rattle.subjects.specs.Checks.{designRefusal, subjectFault, subjectsRefusal, repeatedRefusal}
+use Rattle.subjects.specs.Table.{noSubjects, noConditions, grandMean, subjectMeans, conditionSum, conditionMeans, ssTotal, ssSubjects, ssConditions, ssError}
 
 -- P9: the subjects {1, 3} and {5, 9}
 abbrev p9 : List Float

@@ -4,9 +4,10 @@ ghost use mathlib.Core.Path.{_≡_};
 ghost use mathlib.Core.Bool.{false};
 ghost use Prim.Native.Nat.{_≤_, _<_};
 ghost use lib.ListN.{length};
-ghost use Rattle.base.specs.Lists.{total, cut};
+ghost use Rattle.base.specs.Lists.{cut};
+ghost use Rattle.base.specs.Sizes.{Sized};
 ghost use Rattle.stats.specs.Sums.{hasNan};
-ghost use Rattle.subjects.specs.Checks.{Sized, conditions, sizesRefusal, designRefusal, subjectFault, subjectsRefusal, repeatedRefusal};
+ghost use Rattle.subjects.specs.Checks.{conditions, designRefusal, subjectFault, subjectsRefusal, repeatedRefusal};
 ghost use Rattle.subjects.specs.Table.{Fitting, subjectMeans, conditionSum, conditionMeans, noTable, tableOf, rmTable};
 
 // The means of n subjects and k conditions, and the sums of squares. Unused places are zero.
@@ -20,20 +21,6 @@ pub struct RmTable {
     pub ss_error: f64,
 }
 
-// The sum of the sizes. It has 64 bits, so that 64 sizes of 32 bits cannot wrap.
-fn total_of(sizes: &[u32]) -> u64
-    requires { ⌜ length (now sizes) ≤ 64 ⌝ }
-    ensures { λ r. ⌜ r ≡ total (now (sizes .entry)) ⌝ }
-{
-    let mut t: u64 = 0;
-    let mut i = 0;
-    while i < sizes.len() {
-        t += sizes[i] as u64;
-        i += 1;
-    }
-    t
-}
-
 // The readings of the first subject, of which there may be none.
 fn conditions(sizes: &[u32]) -> u64
     ensures { λ r. ⌜ r ≡ conditions (now (sizes .entry)) ⌝ }
@@ -42,23 +29,6 @@ fn conditions(sizes: &[u32]) -> u64
         return 0;
     }
     sizes[0] as u64
-}
-
-// Too many subjects, too many readings, sizes that do not add up.
-fn sizes_refusal(readings: &[f64], sizes: &[u32]) -> Refusal
-    ensures { λ r. ⌜ r ≡ sizesRefusal (now (readings .entry)) (now (sizes .entry)) ⌝ }
-{
-    if base::MOST_SUBJECTS < sizes.len() {
-        return Refusal::new(11, 3, sizes.len() as u64);
-    }
-    if base::MOST_READINGS < readings.len() {
-        return Refusal::new(11, 2, readings.len() as u64);
-    }
-    let needed = total_of(sizes);
-    if needed != readings.len() as u64 {
-        return Refusal::new(10, needed, readings.len() as u64);
-    }
-    Refusal::none()
 }
 
 // n subjects and k conditions: too many conditions, too few subjects, too few conditions.
@@ -96,7 +66,7 @@ fn subject_fault(row: &[f64], k: u64, i: u64, nans: bool) -> Refusal
 
 // The first subject that has a fault. Where no reading is a NaN, the rows are not searched for one.
 fn subjects_refusal(readings: &[f64], sizes: &[u32], k: u64) -> Refusal
-    requires { ⌜ Sized (now readings) (now sizes) ⌝ }
+    requires { ⌜ Sized 64 (length (now readings)) (now sizes) ⌝ }
     ensures { λ r. ⌜ r ≡ subjectsRefusal k 1 (cut (now (sizes .entry)) (now (readings .entry))) ⌝ }
 {
     let nans = stats::has_nan(readings);
@@ -118,7 +88,7 @@ fn subjects_refusal(readings: &[f64], sizes: &[u32], k: u64) -> Refusal
 pub fn repeated_refusal(readings: &[f64], sizes: &[u32]) -> Refusal
     ensures { λ r. ⌜ r ≡ repeatedRefusal (now (readings .entry)) (now (sizes .entry)) ⌝ }
 {
-    let r = sizes_refusal(readings, sizes);
+    let r = base::sizes_refusal(readings.len(), sizes, base::MOST_SUBJECTS as u32, 3);
     if r.number != 0 {
         return r;
     }

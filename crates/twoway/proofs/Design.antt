@@ -5,7 +5,7 @@ use Prim.Native.Nat.{ℕ, _+_, _-_, _*_, _≤_, min}
 use native.Mathlib.Omega.{arith}
 use borrow.Author.Tests.{le-ltb, le-leb, eq-eqb, ne-eqb}
 use lib.Ieee.{Float}
-use lib.ListN.{length, getD, take, drop, replicate, length-set, length-append, length-replicate, length-drop}
+use lib.ListN.{length, getD, take, drop, replicate, length-append, length-replicate, length-drop}
 use lib.Seq.{take-take, drop-drop, length-take-le}
 use Rattle.base.specs.declared.Refusal.{Refusal}
 use Rattle.base.specs.Lists.{total, cut}
@@ -19,9 +19,9 @@ use Rattle.margins.specs.declared.CellTable.{CellTable}
 use Rattle.balanced.specs.declared.Effects.{Effects}
 use Rattle.balanced.specs.Squares.{otherCount, balancedSs}
 use Rattle.type3.specs.declared.Effects.{Effects as Type3}
-use Rattle.base.proofs.Loops.{loop-length}
+use Rattle.base.proofs.Loops.{listed-length}
 use Rattle.float.specs.Words.{plusZero}
-use Rattle.margins.specs.Table.{cellTable, tableFits, tableOf, cellMean, cellMeans, listed, putAt, noCells}
+use Rattle.margins.specs.Table.{cellTable, tableFits, tableOf, cellMean, cellMeans, noCells}
 use Rattle.type3.specs.Shape.{fits, factorFits}
 use Rattle.type3.specs.Wiping.{wiped, zeros}
 use Rattle.type3.specs.Answer.{type3Ss, allEffects}
@@ -130,8 +130,8 @@ module _ (xs : List Float) (us vs : List ℕ) (scratch after : List Float) (d : 
 
   -- the cells' means have 36 places
   pub means-wide : (t : CellTable) → t ≡ cellTable ns (take (d .«n_total») after) a b → length (t .«cell_means») ≡ 36
-  unfolding cellMeans listed noCells
-  means-wide t p = rw (p ∙ table-there) (loop-length 0 (a * b) (putAt (cellMean (cells a b xs us vs))) (λ i out. length-set out i _) (replicate 36 plusZero))
+  unfolding cellMeans noCells
+  means-wide t p = rw (p ∙ table-there) (listed-length (a * b) (cellMean (cells a b xs us vs)) (replicate 36 plusZero))
 
   pub means-taken : (t : CellTable) → t ≡ cellTable ns (take (d .«n_total») after) a b → length (take (a * b) (t .«cell_means»)) ≡ a * b
   means-taken t p = length-take-le (a * b) (t .«cell_means») (omega (arith, means-wide t p, h .few))

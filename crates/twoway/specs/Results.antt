@@ -1,6 +1,5 @@
 -- The answer of a two-way analysis: its table, and what it is where it is refused.
 use Prim.Native.Nat.{ℕ, _-_, _*_, _≤_}
-use mathlib.Core.Bool.{true, false}
 use mathlib.Core.List.{List}
 use lib.Ieee.{Float}
 use lib.ListN.{length}
@@ -8,22 +7,11 @@ use Rattle.base.specs.declared.Refusal.{Refusal}
 use Rattle.base.specs.Refusals.{none}
 use Rattle.float.specs.Words.{_⊘_, count, plusZero}
 use Rattle.stats.specs.Sums.{meanOf, sqDev}
+use Rattle.tables.specs.Rows.{effectRow, plainRow, noRow}
 use Rattle.margins.specs.declared.CellTable.{CellTable}
 use Rattle.margins.specs.Table.{noLevels, noCells}
 use Rattle.balanced.specs.declared.Effects.{Effects}
-use Rattle.twoway.specs.declared.AnovaTableRow.{AnovaTableRow}
 use Rattle.twoway.specs.declared.TwoWayAnovaResult.{TwoWayAnovaResult}
-
--- a row of the table: the mean square is the sum over its degrees of freedom, and F the mean square over the residual's
-abbrev pub effectRow : Float → Float → Float → AnovaTableRow
-effectRow ss df msError = record { ss = ss; df = df; ms = ss ⊘ df; «has_f» = true; f = ss ⊘ df ⊘ msError }
-
--- the residual and the total have no F
-abbrev pub plainRow : Float → Float → AnovaTableRow
-plainRow ss df = record { ss = ss; df = df; ms = ss ⊘ df; «has_f» = false; f = plusZero }
-
-abbrev pub noRow : AnovaTableRow
-noRow = record { ss = plusZero; df = plusZero; ms = plusZero; «has_f» = false; f = plusZero }
 
 -- the residual's mean square
 abbrev pub msError : List Float → ℕ → ℕ → CellTable → Float

@@ -3,18 +3,10 @@ mod squares;
 mod table;
 
 use base::Refusal;
+use tables::AnovaTableRow;
 ghost use mathlib.Core.Path.{_≡_};
-ghost use Rattle.twoway.specs.Results.{noRow, refusedResult};
+ghost use Rattle.twoway.specs.Results.{refusedResult};
 ghost use Rattle.twoway.specs.Anova.{twoWayAnova};
-
-// One row of the table. Where there is no F, it is zero beside a mark that says so.
-pub struct AnovaTableRow {
-    pub ss: f64,
-    pub df: f64,
-    pub ms: f64,
-    pub has_f: bool,
-    pub f: f64,
-}
 
 // The answer of a two-way analysis. Cell (i, j) stands at place i * levels_b + j; unused places are zero.
 pub struct TwoWayAnovaResult {
@@ -33,29 +25,17 @@ pub struct TwoWayAnovaResult {
     pub marginal_means_b: [f64; 6],
 }
 
-fn no_row() -> AnovaTableRow
-    ensures { λ r. ⌜ r ≡ noRow ⌝ }
-{
-    AnovaTableRow {
-        ss: 0.0,
-        df: 0.0,
-        ms: 0.0,
-        has_f: false,
-        f: 0.0,
-    }
-}
-
 // The answer that carries a refusal alone.
 pub fn refused(refusal: Refusal) -> TwoWayAnovaResult
     ensures { λ r. ⌜ r ≡ refusedResult refusal ⌝ }
 {
     TwoWayAnovaResult {
         refusal: refusal,
-        factor_a: no_row(),
-        factor_b: no_row(),
-        interaction: no_row(),
-        residual: no_row(),
-        total: no_row(),
+        factor_a: tables::no_row(),
+        factor_b: tables::no_row(),
+        interaction: tables::no_row(),
+        residual: tables::no_row(),
+        total: tables::no_row(),
         levels_a: 0,
         levels_b: 0,
         n: 0,

@@ -1,38 +1,10 @@
 // The table of a two-way analysis, once its sums of squares are known.
-use crate::AnovaTableRow;
 use crate::TwoWayAnovaResult;
 use balanced::Effects;
 use base::Refusal;
 use margins::CellTable;
 ghost use mathlib.Core.Path.{_≡_};
-ghost use Rattle.twoway.specs.Results.{effectRow, plainRow, Small, answerOf};
-
-// An effect: with its F over the residual's mean square.
-fn effect_row(ss: f64, df: f64, ms_error: f64) -> AnovaTableRow
-    ensures { λ r. ⌜ r ≡ effectRow ss df «ms_error» ⌝ }
-{
-    let ms = float::canon(ss / df);
-    AnovaTableRow {
-        ss: ss,
-        df: df,
-        ms: ms,
-        has_f: true,
-        f: float::canon(ms / ms_error),
-    }
-}
-
-// The residual and the total have no F.
-fn plain_row(ss: f64, df: f64) -> AnovaTableRow
-    ensures { λ r. ⌜ r ≡ plainRow ss df ⌝ }
-{
-    AnovaTableRow {
-        ss: ss,
-        df: df,
-        ms: float::canon(ss / df),
-        has_f: false,
-        f: 0.0,
-    }
-}
+ghost use Rattle.twoway.specs.Results.{Small, answerOf};
 
 pub fn answer(values: &[f64], a: usize, b: usize, t: CellTable, e: Effects) -> TwoWayAnovaResult
     requires { ⌜ Small (now values) a b ⌝ }
@@ -41,18 +13,18 @@ pub fn answer(values: &[f64], a: usize, b: usize, t: CellTable, e: Effects) -> T
     let n = values.len();
     let grand_mean = float::canon(stats::sum(values) / (n as f64));
     let ss_total = stats::sq_dev(values, grand_mean);
-    let residual = plain_row(t.ss_error, (n - a * b) as f64);
+    let residual = tables::plain_row(t.ss_error, (n - a * b) as f64);
     let ms_error = residual.ms;
     let cell_means = t.cell_means;
     let means_a = t.marginal_means_a;
     let means_b = t.marginal_means_b;
     TwoWayAnovaResult {
         refusal: Refusal::none(),
-        factor_a: effect_row(e.ss_a, (a - 1) as f64, ms_error),
-        factor_b: effect_row(e.ss_b, (b - 1) as f64, ms_error),
-        interaction: effect_row(e.ss_ab, ((a - 1) * (b - 1)) as f64, ms_error),
+        factor_a: tables::effect_row(e.ss_a, (a - 1) as f64, ms_error),
+        factor_b: tables::effect_row(e.ss_b, (b - 1) as f64, ms_error),
+        interaction: tables::effect_row(e.ss_ab, ((a - 1) * (b - 1)) as f64, ms_error),
         residual: residual,
-        total: plain_row(ss_total, (n - 1) as f64),
+        total: tables::plain_row(ss_total, (n - 1) as f64),
         levels_a: a,
         levels_b: b,
         n: n,

@@ -8,7 +8,7 @@ use native.Mathlib.Omega.{arith}
 use lib.ListN.{length, getD, set, replicate}
 use Rattle.base.specs.Loop.{loop, turns}
 use Rattle.base.proofs.Bounds.{row-end}
-use Rattle.linear.proofs.Walks.{walks}
+use Rattle.base.proofs.Walks.{walks}
 use Rattle.type3.specs.Matrices.{places}
 
 module _ {A : Type 0} where

@@ -7,9 +7,10 @@ use lib.Ieee.{Float, binary64, ofBits, toBits, add, sub, mul, div, neg, lt, ofIn
 use lib.ListN.{replicate}
 use Rattle.base.specs.declared.Refusal.{Refusal}
 use Rattle.base.specs.Refusals.{guarded}
-use Rattle.base.specs.Lists.{total, cut}
+use Rattle.base.specs.Lists.{total, cut, listed}
 use Rattle.stats.specs.Sums.{sumBy, hasNan}
-use Rattle.door.specs.Checks.{sizesRefusal, groupFault, groupsRefusal, oneWayRefusal}
+use Rattle.base.specs.Sizes.{sizesRefusal}
+use Rattle.door.specs.Checks.{groupFault, groupsRefusal, oneWayRefusal}
 use Rattle.oneway.specs.declared.AnovaKind.{AnovaKind}
 use Rattle.oneway.specs.declared.AnovaKind.the-variants.{Fisher, Welch}
 use Rattle.oneway.specs.declared.OneWayAnovaResult.{OneWayAnovaResult}
@@ -20,7 +21,7 @@ use Rattle.oneway.specs.Anova.{anova, oneWayAnova}
 use Rattle.base.specs.Loop.{loop, turns}
 use Rattle.cells.specs.Cells.{cell, numbers, cells}
 use Rattle.cells.specs.Checks.{largest, shapeRefusal, levelsRefusal, emptyRefusal, cellsRefusal, twoWayRefusal}
-use Rattle.margins.specs.Table.{tallyLine, listed, noLevels, noCells, margins, cellMeans, ssError}
+use Rattle.margins.specs.Table.{tallyLine, noLevels, noCells, margins, cellMeans, ssError}
 use Rattle.balanced.specs.Squares.{unlike, otherCount, meanLine, meanMargins, abRow, ssAb, balancedSs}
 use Rattle.twoway.specs.declared.TwoWayAnovaResult.{TwoWayAnovaResult}
 use Rattle.twoway.specs.Results.{answerOf, refusedResult}

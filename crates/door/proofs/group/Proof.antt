@@ -3,8 +3,6 @@ use Prim.Native.Nat.{_-_}
 use mathlib.Core.Path.{sym, _∙_}
 use native.Mathlib.Omega.{arith}
 use borrow.Author.Needs.{needs}
-use lib.ListN.{length-take}
-use lib.Seq.{length-take-le}
 use Rattle.base.proofs.Order.{refused-answer, passed-answer}
 use Rattle.door.specs.Checks.{viewOf, noReadings}
 use Rattle.door.proofs.Doors.{Viewed, viewed}
@@ -32,26 +30,26 @@ returns : tie.Need-returns
 unfolding viewOf
 returns c = sym (refused-answer _ noReadings _ (λ e. c .before .if1 .taken (rw (c .before .before .before .group-refusal .ensures) e)))
 
-slice-aggregate-total-of : tie.Need-slice-aggregate-total-of
-slice-aggregate-total-of c = let k = known (c .before) in sym (length-take-le _ _ (omega arith))
+cast-total-of : tie.Need-cast-total-of
+cast-total-of c = let k = known c in omega (arith, k .there, k .sizes .rows)
 
 total-of-requires : tie.Need-total-of-requires
-total-of-requires c κs = let k = known (c .before) in simp length-take (omega (arith, k .sizes .groups))
+total-of-requires c κs = search needs
 
 mul-end : tie.Need-mul-end
-mul-end c = omega (arith, known (c .before .before))
+mul-end c = omega (arith, known (c .before))
 
 shared-slice-read-end : tie.Need-shared-slice-read-end
-shared-slice-read-end c = omega (arith, known (c .before .before .before))
+shared-slice-read-end c = omega (arith, known (c .before .before))
 
 cast-end : tie.Need-cast-end
-cast-end c = omega (arith, c .shared-slice-known3 .given (c .before .before .before .before .before .before .before .before .args .g))
+cast-end c = omega (arith, c .shared-slice-known3 .given (c .before .before .before .before .before .before .before .args .g))
 
 add-end : tie.Need-add-end
-add-end c = let k = known (c .before .before .before) in omega (arith, c .before .total-of .ensures, k .ends, k .sizes .readings)
+add-end c = let k = known (c .before .before) in omega (arith, c .before .total-of .ensures, k .ends, k .sizes .readings)
 
 mul-result : tie.Need-mul-result
-mul-result c = let k = known (c .before .before .before) in omega (arith, c .before .total-of .ensures, k .ends, k .sizes .readings)
+mul-result c = let k = known (c .before .before) in omega (arith, c .before .total-of .ensures, k .ends, k .sizes .readings)
 
 sub-result-2 : tie.Need-sub-result-2
 sub-result-2 c = omega arith
@@ -60,14 +58,14 @@ part-result-start-2 : tie.Need-part-result-start-2
 part-result-start-2 c = omega arith
 
 part-result-end-2 : tie.Need-part-result-end-2
-part-result-end-2 c = let k = known (c .before .before .before) in omega (arith, c .before .total-of .ensures, k .ends)
+part-result-end-2 c = let k = known (c .before .before) in omega (arith, c .before .total-of .ensures, k .ends)
 
 returns-2 : tie.Need-returns-2
 unfolding viewOf
 returns-2 c =
-    let k = known (c .before .before .before .before) in
-    let r = c .before .before .before .before .before .before .group-refusal in
-    rw (c .before .before .total-of .ensures) (view-here _ _ _ (k .there) ∙ sym (passed-answer _ noReadings _ (rw (r .ensures) at (c .before .before .before .before .if1 .left))))
+    let k = known (c .before .before .before) in
+    let r = c .before .before .before .before .before .group-refusal in
+    rw (c .before .before .total-of .ensures) (view-here _ _ _ (k .there) ∙ sym (passed-answer _ noReadings _ (rw (r .ensures) at (c .before .before .before .if1 .left))))
 
 pub group-spec : {M : Type 1} → statement M
 group-spec =
@@ -78,7 +76,7 @@ group-spec =
     part-result-start
     part-result-end
     returns
-    slice-aggregate-total-of
+    cast-total-of
     total-of-requires
     mul-end
     shared-slice-read-end

@@ -1,11 +1,15 @@
 -- `door::group_refusal` meets its contract.
 use Prim.Native.Nat.{_-_}
+use native.Mathlib.Omega.{arith}
 use borrow.Author.Needs.{needs}
 use borrow.Author.Tests.{le-leb, lt-leb}
 use Rattle.base.proofs.Order.{stops, goes-on}
 use Rattle.door.specs.Checks.{viewRefusal}
 use Rattle.door.proofs.group_refusal.Statement.{statement}
 use Rattle.door.proofs.group_refusal.Tie as tie
+
+cast-sizes-refusal : tie.Need-cast-sizes-refusal
+cast-sizes-refusal c = omega arith
 
 sizes-refusal-requires : tie.Need-sizes-refusal-requires
 sizes-refusal-requires c κs = search needs
@@ -31,4 +35,4 @@ returns-3 c = goes-on _ _ (c .before .before .before .before .sizes-refusal .ens
 pub group-refusal-spec : {M : Type 1} → statement M
 group-refusal-spec =
     tie.close
-    (tie.spec sizes-refusal-requires returns new-requires returns-2 none-requires returns-3)
+    (tie.spec cast-sizes-refusal sizes-refusal-requires returns new-requires returns-2 none-requires returns-3)

@@ -1,12 +1,16 @@
 -- `door::one_way_refusal` meets its contract.
 use Prim.Native.Nat.{_-_}
+use native.Mathlib.Omega.{arith}
 use borrow.Author.Needs.{needs}
 use borrow.Author.Tests.{lt-ltb, le-ltb}
 use Rattle.base.proofs.Order.{stops, goes-on}
 use Rattle.door.specs.Checks.{oneWayRefusal}
-use Rattle.door.proofs.Doors.{sized}
+use Rattle.base.proofs.Sizes.{sized}
 use Rattle.door.proofs.one_way_refusal.Statement.{statement}
 use Rattle.door.proofs.one_way_refusal.Tie as tie
+
+cast-sizes-refusal : tie.Need-cast-sizes-refusal
+cast-sizes-refusal c = omega arith
 
 sizes-refusal-requires : tie.Need-sizes-refusal-requires
 sizes-refusal-requires c κs = search needs
@@ -23,7 +27,7 @@ unfolding oneWayRefusal
 returns-2 c = goes-on _ _ (c .before .before .before .before .sizes-refusal .ensures) (c .before .before .if1 .left) (rw (c .new .ensures, lt-ltb _ 2 (c .before .if2 .taken)))
 
 groups-refusal-requires : tie.Need-groups-refusal-requires
-groups-refusal-requires c κs = sized _ _ (rw (c .before .before .before .sizes-refusal .ensures) at (c .before .if1 .left))
+groups-refusal-requires c κs = sized _ _ _ _ (rw (c .before .before .before .sizes-refusal .ensures) at (c .before .if1 .left))
 
 returns-3 : tie.Need-returns-3
 unfolding oneWayRefusal
@@ -33,7 +37,7 @@ pub one-way-refusal-spec : {M : Type 1} → statement M
 one-way-refusal-spec =
     tie.close
     (tie.spec
-    sizes-refusal-requires
+    cast-sizes-refusal sizes-refusal-requires
     returns
     new-requires
     returns-2

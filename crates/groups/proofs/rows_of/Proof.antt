@@ -40,7 +40,7 @@ unfolding emptyRows rowsOf
 loop-holds c =
     let a = c .before .before .before .args in
     let p = c .before .before .before .pre in
-    (omega arith, omega arith, refl, p .fine, rw (c .empty .ensures) (rows-laid itself (a .readings .now) (a .sizes .now) emptyRows (p .sizes .groups)))
+    (omega arith, omega arith, refl, p .fine, rw (c .empty .ensures) (rows-laid itself (a .readings .now) (a .sizes .now) emptyRows (p .sizes .rows)))
 
 mul-end : tie.Need-mul-end Inv-loop μ-loop
 mul-end c = omega arith

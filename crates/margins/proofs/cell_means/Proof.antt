@@ -9,7 +9,8 @@ use lib.Ieee.{Float}
 use lib.ListN.{set}
 use Rattle.margins.proofs.Places.{short}
 use Rattle.float.proofs.Counts.{small-count}
-use Rattle.margins.specs.Table.{listed, noCells, putAt, cellMean, cellMeans}
+use Rattle.base.specs.Lists.{putAt, listed}
+use Rattle.margins.specs.Table.{noCells, cellMean, cellMeans}
 use Rattle.base.proofs.Loops.{step, ends}
 use Rattle.base.specs.Loop.{loop}
 use Rattle.base.specs.Lists.{cut}

@@ -7,7 +7,8 @@ use lib.ListN.{length, length-set}
 use lib.ListN.{take}
 use lib.Ieee.{Float}
 use lib.ListN.{set}
-use Rattle.margins.specs.Table.{listed, noLevels, putAt, margin, margins}
+use Rattle.base.specs.Lists.{putAt, listed}
+use Rattle.margins.specs.Table.{noLevels, margin, margins}
 use Rattle.base.proofs.Bounds.{row-end}
 use Rattle.base.proofs.Loops.{step, ends}
 use Rattle.base.specs.Loop.{loop}

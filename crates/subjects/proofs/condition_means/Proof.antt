@@ -6,7 +6,8 @@ use borrow.Author.Needs.{needs}
 use lib.ListN.{length, length-set}
 use lib.Ieee.{Float}
 use lib.ListN.{set}
-use Rattle.subjects.specs.Table.{listed, noConditions, putAt, conditionMean, conditionMeans}
+use Rattle.base.specs.Lists.{putAt, listed}
+use Rattle.subjects.specs.Table.{noConditions, conditionMean, conditionMeans}
 use Rattle.float.proofs.Counts.{small-count}
 use Rattle.base.specs.Loop.{loop}
 use Rattle.base.proofs.Loops.{step, ends}

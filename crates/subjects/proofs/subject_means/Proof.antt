@@ -7,7 +7,8 @@ use lib.ListN.{length, length-set}
 use lib.Ieee.{Float}
 use lib.ListN.{set}
 use Rattle.subjects.proofs.Rows.{row-within, few-readings, row-part}
-use Rattle.subjects.specs.Table.{listed, noSubjects, putAt, subjectMean, subjectMeans}
+use Rattle.base.specs.Lists.{putAt, listed}
+use Rattle.subjects.specs.Table.{noSubjects, subjectMean, subjectMeans}
 use Rattle.float.proofs.Counts.{small-count}
 use Rattle.base.specs.Loop.{loop}
 use Rattle.base.proofs.Loops.{step, ends}

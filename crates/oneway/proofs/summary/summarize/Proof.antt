@@ -38,7 +38,7 @@ loop-holds c =
     let start = c .before .before in
     let xs = start .args .readings .now in
     let ns = start .args .sizes .now in
-    let k = start .pre .sizes .groups in
+    let k = start .pre .sizes .rows in
     (omega arith, omega arith, start .pre .fine, refl, refl, refl, rows-laid sizeOf xs ns noSizes k, rows-laid rowMean xs ns noMeans k, rows-laid rowSqDev xs ns noMeans k)
 
 mul-end : tie.Need-mul-end Inv-loop μ-loop

@@ -1,18 +1,21 @@
--- `linear::rows::canon_places` meets its contract.
+-- `float::canon_places` meets its contract.
 use Prim.Native.Nat.{_-_}
 use mathlib.Core.Path.{_≡_, refl, _∙_}
 use native.Mathlib.Omega.{arith}
 use borrow.Author.Needs.{needs}
 use lib.ListN.{length}
 use lib.Seq.{set-getD}
-use Rattle.linear.proofs.rows.canon_places.Statement.{statement}
-use Rattle.linear.proofs.rows.canon_places.Tie as tie
+use Rattle.float.proofs.canon_places.Statement.{statement}
+use Rattle.float.proofs.canon_places.Tie as tie
 
 abbrev Inv-loop : tie.InvT-loop
 Inv-loop m₀ k j₀ m j = (length m ≡ length m₀) × (m ≡ m₀)
 
 abbrev μ-loop : tie.MeasureT-loop
 μ-loop m₀ k j₀ m j = k - j
+
+returns : tie.Need-returns Inv-loop μ-loop
+returns c = refl
 
 loop-holds : tie.Need-loop-holds Inv-loop μ-loop
 loop-holds c = (refl, refl)
@@ -44,8 +47,8 @@ loop-again c = (search needs, rw (c .canon .ensures) (set-getD _ _ _ ∙ c .befo
 same-length : tie.Need-same-length Inv-loop μ-loop
 same-length c = search needs
 
-returns : tie.Need-returns Inv-loop μ-loop
-returns c = c .before .loop .inv .1
+returns-2 : tie.Need-returns-2 Inv-loop μ-loop
+returns-2 c = c .before .loop .inv .1
 
 pub canon-places-spec : {M : Type 1} → statement M
 canon-places-spec =
@@ -53,6 +56,7 @@ canon-places-spec =
     (tie.spec
     Inv-loop
     μ-loop
+    returns
     loop-holds
     mul-canon
     slice-read-canon
@@ -63,4 +67,4 @@ canon-places-spec =
     loop-less
     loop-again
     same-length
-    returns)
+    returns-2)

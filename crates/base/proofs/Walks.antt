@@ -1,8 +1,8 @@
--- Two laws of the counting loop beside base's: its last turn, and what holds at each turn where that depends on the turn.
+-- Two more laws of the counting loop: its last turn, and what holds at each turn where that depends on the turn.
 use Prim.Native.Nat.{ℕ, zero, suc, _+_, _-_, _<_, _≤_}
 use mathlib.Core.Path.{_≡_, _∙_}
 use native.Mathlib.Omega.{arith}
 use Rattle.base.specs.Loop.{loop, turns}
 
 module _ {S : Type 0} (f : ℕ → S → S) where
   turns-last : (k i : ℕ) (s : S) → turns i (suc k) f s ≡ f (i + k) (turns i k f s)
