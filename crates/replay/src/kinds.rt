@@ -25,6 +25,7 @@ pub fn answer(
         3 => one_way::fisher(out, at, sizes, readings),
         4 => one_way::welch(out, at, sizes, readings),
         5 => designs::two_way(out, at, option, a, b, readings),
+        6 => measures::repeated_measures(out, at, option, sizes, readings),
         7 => designs::study(out, at, option, a, b, readings),
         8 => roots::roots(out, at, readings),
         9 => views::view(out, at, option, sizes, readings),

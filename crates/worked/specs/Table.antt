@@ -29,6 +29,24 @@ use Rattle.twoway.specs.Anova.{squaresOf, twoWayAnova}
 use Rattle.study.specs.declared.GaugeStudy.{GaugeStudy}
 use Rattle.study.specs.Study.{balanceRefusal, studyRefusal, componentsOf, gaugeStudy}
 use Rattle.float.specs.Words.{plusZero}
+use Rattle.float.specs.Singles.{absOf, isFinite, leastOf, greatestOf, clampOf, powerFrom, powerOf}
+use Rattle.base.specs.Lists.{part}
+use Rattle.linear.specs.Determinant.{twoByTwo, detOf, matrixDeterminant}
+use Rattle.subjects.specs.Checks.{designRefusal, subjectFault, subjectsRefusal, repeatedRefusal}
+use Rattle.subjects.specs.Table.{noSubjects, noConditions, subjectMeans, conditionSum, conditionMeans, ssTotal, ssSubjects, ssConditions}
+use Rattle.eigen.specs.Places.{refuses, dot}
+use Rattle.eigen.specs.Orthonormal.{lessRow, overRow, projectRow, projectRows, normalizeRow, orthonormalRow, orthonormalRows, orthonormalize}
+use Rattle.eigen.specs.Product.{productRow, product, blank, csc, matrixMultiplyCsc}
+use Rattle.eigen.specs.Qr.{blankColumn, columnOf, lessColumn, project, projections, putColumn, newColumn, normalize, remains, qrColumn, qrColumns}
+use Rattle.eigen.specs.Values.{zeros, qrHere, round, rounds, diagonal, computeEigenvalues}
+use Rattle.contrasts.specs.Covariance.{covSum, covariance, covRow, covRows, noCovariances, covMatrix}
+use Rattle.contrasts.specs.Contrasts.{contrastRow, contrastRows, contrasts, orthonormalContrasts, throughContrasts, fits, contrastCovariance}
+use Rattle.sphericity.specs.Epsilons.{values, ggRaw, epsilonGg, hfRaw, usable, epsilonHf}
+use Rattle.sphericity.specs.Mauchly.{trace, meanTrace, det, wRaw, mauchlyW, dfW}
+use Rattle.sphericity.specs.Corrections.{csc as cscHere, fits as fitsHere, ggOf, correctionsOf, computeSphericityCorrections}
+use Rattle.repeated.specs.declared.RmAnovaResult.{RmAnovaResult}
+use Rattle.repeated.specs.Results.{answerOf as repeatedAnswer}
+use Rattle.repeated.specs.Anova.{repeatedMeasuresAnova}
 use Rattle.root.specs.Root.{sqrtOf}
 
 -- what is asked; readings are given by their bits
@@ -38,6 +56,7 @@ pub data Asked : Type 0 where
   TwoWay : List ℕ → List ℕ → List ℕ → Asked
   Study : List ℕ → List ℕ → List ℕ → Asked
   TwoWayDoor : List ℕ → List ℕ → List ℕ → Asked
+  Repeated : Bool → List ℕ → List ℕ → Asked
 
 -- a float by its bits, a mark as 1 or 0
 abbrev shown : Float → ℕ
@@ -68,6 +87,13 @@ studyLine r =
     r .refusal .number ∷ r .refusal .first ∷ r .refusal .second
     ∷ shown (r .«component_a») ∷ shown (r .«component_b») ∷ shown (r .«component_ab») ∷ shown (r .«component_residual») ∷ shown (r .«component_total») ∷ []
 
+-- the refusal and its details; the sums of squares of the conditions, the subjects, the error and the total; F; and, behind its mark, W and the two epsilons
+abbrev repeatedLine : RmAnovaResult → List ℕ
+repeatedLine r =
+    r .refusal .number ∷ r .refusal .first ∷ r .refusal .second
+    ∷ shown (r .«within_subjects» .ss) ∷ shown (r .subjects .ss) ∷ shown (r .error .ss) ∷ shown (r .total .ss) ∷ shown (r .«within_subjects» .f)
+    ∷ mark (r .«has_sphericity») ∷ shown (r .sphericity .w) ∷ shown (r .«greenhouse_geisser» .epsilon) ∷ shown (r .«huynh_feldt» .epsilon) ∷ []
+
 abbrev refusalLine : Refusal → List ℕ
 refusalLine r = r .number ∷ r .first ∷ r .second ∷ []
 
@@ -80,6 +106,7 @@ answer (OneWay kind xs ns) = oneWayLine (oneWayAnova kind (map (ofBits binary64)
 answer (Root x) = shown (sqrtOf (ofBits binary64 x)) ∷ []
 answer (TwoWay xs us vs) = twoWayLine (twoWayAnova (map (ofBits binary64) xs) us vs lent .1)
 answer (Study xs us vs) = studyLine (gaugeStudy (map (ofBits binary64) xs) us vs lent .1)
+answer (Repeated wanted xs ns) = repeatedLine (repeatedMeasuresAnova (map (ofBits binary64) xs) ns wanted)
 answer (TwoWayDoor xs us vs) = refusalLine (twoWayRefusal (map (ofBits binary64) xs) us vs 6400)
 
 -- a line of the table: the question, and the answer that the paper gives
@@ -119,6 +146,12 @@ n25 = 0x4039000000000000
 
 abbrev n6 : ℕ
 n6 = 0x4018000000000000
+
+abbrev n9 : ℕ
+n9 = 0x4022000000000000
+
+abbrev n35 : ℕ
+n35 = 0x4041800000000000
 
 abbrev n11 : ℕ
 n11 = 0x4026000000000000
@@ -179,6 +212,10 @@ lines =
     -- P8 one reading a cell; and one reading more, which is accepted
     ∷ (TwoWayDoor (n1 ∷ n2 ∷ n3 ∷ n5 ∷ []) (0 ∷ 0 ∷ 1 ∷ 1 ∷ []) (0 ∷ 1 ∷ 0 ∷ 1 ∷ []), 2 ∷ 5 ∷ 4 ∷ [])
     ∷ (TwoWayDoor (n1 ∷ n2 ∷ n3 ∷ n5 ∷ n7 ∷ []) (0 ∷ 0 ∷ 1 ∷ 1 ∷ 1 ∷ []) (0 ∷ 1 ∷ 0 ∷ 1 ∷ 1 ∷ []), 0 ∷ 0 ∷ 0 ∷ [])
+    -- P9 the subjects {1,3},{5,9}
+    ∷ (Repeated false (n1 ∷ n3 ∷ n5 ∷ n9 ∷ []) (2 ∷ 2 ∷ []), 0 ∷ 0 ∷ 0 ∷ n9 ∷ n25 ∷ n1 ∷ n35 ∷ n9 ∷ 0 ∷ 0 ∷ 0 ∷ 0 ∷ [])
+    -- P10 two subjects, three conditions, all zero, with sphericity: a hundred rounds of QR
+    ∷ (Repeated true (replicate 6 0) (3 ∷ 3 ∷ []), 0 ∷ 0 ∷ 0 ∷ 0 ∷ 0 ∷ 0 ∷ 0 ∷ notANumber ∷ 1 ∷ n1 ∷ n1 ∷ n1 ∷ [])
     -- P11 the roots of 4, of 2, of the smallest subnormal, and of -1
     ∷ (Root n4, n2 ∷ [])
     ∷ (Root n2, 0x3FF6A09E667F3BCD ∷ [])
@@ -196,5 +233,5 @@ abbrev given : Line → List ℕ
 given l = l .1
 
 pub worked : map asked lines ≡ map given lines
-unfolding answer lent twoWayAnova squaresOf answerOf twoWayRefusal shapeRefusal levelsRefusal emptyRefusal cellsRefusal largest cells cell numbers tallyLine listed noLevels noCells margins cellMeans ssError unlike otherCount meanLine meanMargins abRow ssAb balancedSs balanceRefusal studyRefusal componentsOf gaugeStudy loop turns oneWayAnova anova fisherAnova welchAnova noSizes noMeans oneWayRefusal sizesRefusal groupsRefusal groupFault guarded total cut hasNan sumBy sqrtOf ofBits toBits add sub mul div neg lt ofInt isNan
+unfolding answer repeatedMeasuresAnova repeatedAnswer repeatedRefusal designRefusal subjectsRefusal subjectFault noSubjects noConditions subjectMeans conditionSum conditionMeans ssTotal ssSubjects ssConditions part computeSphericityCorrections fitsHere correctionsOf cscHere ggOf values ggRaw epsilonGg hfRaw usable epsilonHf trace meanTrace det wRaw mauchlyW dfW matrixDeterminant detOf twoByTwo absOf isFinite leastOf greatestOf clampOf powerFrom powerOf contrastCovariance fits throughContrasts orthonormalContrasts contrasts contrastRows contrastRow covMatrix covRows covRow noCovariances covariance covSum computeEigenvalues diagonal rounds round qrHere zeros qrColumns qrColumn remains normalize newColumn putColumn projections project lessColumn columnOf blankColumn matrixMultiplyCsc csc blank product productRow orthonormalize orthonormalRows orthonormalRow normalizeRow projectRows projectRow overRow lessRow refuses dot lent twoWayAnova squaresOf answerOf twoWayRefusal shapeRefusal levelsRefusal emptyRefusal cellsRefusal largest cells cell numbers tallyLine listed noLevels noCells margins cellMeans ssError unlike otherCount meanLine meanMargins abRow ssAb balancedSs balanceRefusal studyRefusal componentsOf gaugeStudy loop turns oneWayAnova anova fisherAnova welchAnova noSizes noMeans oneWayRefusal sizesRefusal groupsRefusal groupFault guarded total cut hasNan sumBy sqrtOf ofBits toBits add sub mul div neg lt ofInt isNan
 worked = refl

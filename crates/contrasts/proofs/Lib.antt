@@ -1,0 +1,4 @@
+pub mod Sizes
+pub mod Calls
+pub mod Lengths
+pub mod Taken

@@ -1,0 +1,3 @@
+pub mod Covariance
+pub mod Contrasts
+mod Worked

@@ -1,0 +1,3 @@
+pub mod Fitted
+pub mod Choices
+pub mod Meaning

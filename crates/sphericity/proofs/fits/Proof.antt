@@ -1,0 +1,31 @@
+-- `sphericity::fits` meets its contract.
+use Prim.Native.Nat.{_-_}
+use native.Mathlib.Omega.{arith}
+use Rattle.base.proofs.Bounds.{product-le}
+use Rattle.sphericity.proofs.Fitted.{one-subject, many-subjects, two-conditions, many-conditions, other-readings, means-asked}
+use Rattle.sphericity.proofs.fits.Statement.{statement}
+use Rattle.sphericity.proofs.fits.Tie as tie
+
+returns : tie.Need-returns
+returns c = one-subject _ _ _ _ (c .if1 .taken)
+
+returns-2 : tie.Need-returns-2
+returns-2 c = many-subjects _ _ _ _ (c .before .if1 .left) (c .if2 .taken)
+
+returns-3 : tie.Need-returns-3
+returns-3 c = two-conditions _ _ _ _ (c .before .before .if1 .left) (c .before .if2 .left) (c .if3 .taken)
+
+returns-4 : tie.Need-returns-4
+returns-4 c = many-conditions _ _ _ _ (c .before .before .before .if1 .left) (c .before .before .if2 .left) (c .before .if3 .left) (c .if4 .taken)
+
+mul-if5 : tie.Need-mul-if5
+mul-if5 c = omega (arith, product-le 64 12 (c .before .before .if2 .left) (c .if4 .left))
+
+returns-5 : tie.Need-returns-5
+returns-5 c = other-readings _ _ _ _ (c .before .before .before .before .if1 .left) (c .before .before .before .if2 .left) (c .before .before .if3 .left) (c .before .if4 .left) (c .if5 .taken)
+
+returns-6 : tie.Need-returns-6
+returns-6 c = means-asked _ _ _ _ (c .before .before .before .before .if1 .left) (c .before .before .before .if2 .left) (c .before .before .if3 .left) (c .before .if4 .left) (c .if5 .left)
+
+pub fits-spec : {M : Type 1} → statement M
+fits-spec = tie.close (tie.spec returns returns-2 returns-3 returns-4 mul-if5 returns-5 returns-6)

@@ -1,0 +1,77 @@
+-- `compute_sphericity_corrections`: W and the two corrected analyses of n subjects under k conditions. The readings xs lie subject by subject; ms are the conditions' means.
+use Prim.Native.Nat.{ℕ, _-_, _*_, _≤_}
+use mathlib.Core.Bool.{Bool, cond, _&&_}
+use mathlib.Core.List.{List}
+use lib.Dec.{leb, eqb}
+use lib.Ieee.{Float}
+use lib.ListN.{length}
+use Rattle.base.specs.Limits.{mostSubjects, mostConditions}
+use Rattle.float.specs.Words.{_⊗_, plusZero}
+use Rattle.eigen.specs.Values.{zeros}
+use Rattle.contrasts.specs.Contrasts.{contrastCovariance}
+use Rattle.sphericity.specs.Epsilons.{eigenvalues, epsilonGg, epsilonHf}
+use Rattle.sphericity.specs.Mauchly.{mauchlyW, dfW}
+use Rattle.sphericity.specs.declared.SphericityResult.{SphericityResult}
+use Rattle.sphericity.specs.declared.CorrectedResult.{CorrectedResult}
+use Rattle.sphericity.specs.declared.Corrections.{Corrections}
+
+-- C S C', k - 1 rows of k - 1 places, in the first of 121 places
+unfoldable pub csc : ℕ → ℕ → List Float → List Float → List Float
+csc n k xs ms = contrastCovariance n k xs ms zeros .0
+
+-- the epsilon of the eigenvalues of the matrix m
+unfoldable pub ggOf : ℕ → List Float → Float
+ggOf k m = epsilonGg k (eigenvalues (k - 1) m)
+
+-- W and its degrees of freedom, of the matrix m of p rows of p
+abbrev pub sphericityOf : ℕ → List Float → SphericityResult
+sphericityOf p m = record { w = mauchlyW p m; df = dfW p }
+
+-- both degrees of freedom times the epsilon; F is as it was
+abbrev pub corrected : Float → Float → Float → Float → CorrectedResult
+corrected f dn dd e = record {
+  epsilon = e;
+  «df_num_corrected» = dn ⊗ e;
+  «df_den_corrected» = dd ⊗ e;
+  «f_statistic» = f;
+}
+
+-- everything, from the matrix m
+unfoldable pub correctionsOf : ℕ → ℕ → List Float → Float → Float → Float → Corrections
+correctionsOf n k m f dn dd = record {
+  sphericity = sphericityOf (k - 1) m;
+  «greenhouse_geisser» = corrected f dn dd (ggOf k m);
+  «huynh_feldt» = corrected f dn dd (epsilonHf n k (ggOf k m));
+}
+
+-- zeros for one corrected analysis
+abbrev pub noCorrected : CorrectedResult
+noCorrected = record {
+  epsilon = plusZero;
+  «df_num_corrected» = plusZero;
+  «df_den_corrected» = plusZero;
+  «f_statistic» = plusZero;
+}
+
+-- nothing but zeros
+abbrev pub noCorrections : Corrections
+noCorrections = record {
+  sphericity = record { w = plusZero; df = plusZero };
+  «greenhouse_geisser» = noCorrected;
+  «huynh_feldt» = noCorrected;
+}
+
+-- 2 to 64 subjects, 3 to 12 conditions, a reading for each of both, a mean for each condition
+unfoldable pub fits : ℕ → ℕ → ℕ → ℕ → Bool
+fits n k readings means = leb 2 n && (leb n mostSubjects && (leb 3 k && (leb k mostConditions && (eqb readings (n * k) && leb k means))))
+
+-- what is taken gives its corrections; else nothing but zeros
+unfoldable pub computeSphericityCorrections : ℕ → ℕ → List Float → List Float → Float → Float → Float → Corrections
+computeSphericityCorrections n k xs ms f dn dd =
+    cond (fits n k (length xs) (length ms)) (correctionsOf n k (csc n k xs ms) f dn dd) noCorrections
+
+-- ---- what the code keeps
+pub record Taken (n k : ℕ) : Type 0 where
+  pub few-subjects : n ≤ mostSubjects
+  pub some-conditions : 3 ≤ k
+  pub few-conditions : k ≤ mostConditions

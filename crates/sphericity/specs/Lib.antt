@@ -1,0 +1,4 @@
+pub mod Epsilons
+pub mod Mauchly
+pub mod Corrections
+mod Worked

@@ -1,0 +1,132 @@
+// Repeated measures: Mauchly's W, and the degrees of freedom corrected for a lack of sphericity.
+mod epsilons;
+mod mauchly;
+
+ghost use mathlib.Core.Path.{_≡_};
+ghost use Rattle.sphericity.specs.Corrections.{Taken, csc, corrected, correctionsOf, noCorrected, noCorrections, fits, computeSphericityCorrections};
+
+// Mauchly's W and its degrees of freedom.
+pub struct SphericityResult {
+    pub w: f64,
+    pub df: f64,
+}
+
+// The degrees of freedom times an epsilon, beside the F that they belong to.
+pub struct CorrectedResult {
+    pub epsilon: f64,
+    pub df_num_corrected: f64,
+    pub df_den_corrected: f64,
+    pub f_statistic: f64,
+}
+
+pub struct Corrections {
+    pub sphericity: SphericityResult,
+    pub greenhouse_geisser: CorrectedResult,
+    pub huynh_feldt: CorrectedResult,
+}
+
+// Are there 2 to 64 subjects, 3 to 12 conditions, a reading for each of both, and a mean for each condition?
+fn fits(n: usize, k: usize, readings: usize, means: usize) -> bool
+    ensures { λ r. ⌜ r ≡ fits n k readings means ⌝ }
+{
+    if n < 2 {
+        return false;
+    }
+    if base::MOST_SUBJECTS < n {
+        return false;
+    }
+    if k < 3 {
+        return false;
+    }
+    if base::MOST_CONDITIONS < k {
+        return false;
+    }
+    if readings != n * k {
+        return false;
+    }
+    k <= means
+}
+
+// C S C', in the first places.
+fn csc(readings: &[f64], means: &[f64], n: usize, k: usize) -> [f64; 121]
+    ensures { λ r. ⌜ r ≡ csc n k (now (readings .entry)) (now (means .entry)) ⌝ }
+{
+    let mut out = [0.0; 121];
+    contrasts::contrast_covariance(readings, means, n, k, &mut out);
+    out
+}
+
+// One corrected analysis. The epsilons are canonical, F may be any NaN.
+fn corrected(f_stat: f64, df_num: f64, df_den: f64, epsilon: f64) -> CorrectedResult
+    ensures { λ r. ⌜ r ≡ corrected «f_stat» «df_num» «df_den» epsilon ⌝ }
+{
+    CorrectedResult {
+        epsilon: epsilon,
+        df_num_corrected: float::canon(df_num * epsilon),
+        df_den_corrected: float::canon(df_den * epsilon),
+        f_statistic: float::canon(f_stat),
+    }
+}
+
+// Everything, from C S C'.
+fn corrections_of(
+    csc: [f64; 121],
+    n: usize,
+    k: usize,
+    f_stat: f64,
+    df_num: f64,
+    df_den: f64,
+) -> Corrections
+    requires { ⌜ Taken n k ⌝ }
+    ensures { λ r. ⌜ r ≡ correctionsOf n k csc «f_stat» «df_num» «df_den» ⌝ }
+{
+    let gg = epsilons::gg_of(csc, k);
+    let hf = epsilons::epsilon_hf(n, k, gg);
+    Corrections {
+        sphericity: mauchly::sphericity_of(csc, k - 1),
+        greenhouse_geisser: corrected(f_stat, df_num, df_den, gg),
+        huynh_feldt: corrected(f_stat, df_num, df_den, hf),
+    }
+}
+
+fn no_corrected() -> CorrectedResult
+    ensures { λ r. ⌜ r ≡ noCorrected ⌝ }
+{
+    CorrectedResult {
+        epsilon: 0.0,
+        df_num_corrected: 0.0,
+        df_den_corrected: 0.0,
+        f_statistic: 0.0,
+    }
+}
+
+// Nothing but zeros.
+pub fn no_corrections() -> Corrections
+    ensures { λ r. ⌜ r ≡ noCorrections ⌝ }
+{
+    Corrections {
+        sphericity: SphericityResult { w: 0.0, df: 0.0 },
+        greenhouse_geisser: no_corrected(),
+        huynh_feldt: no_corrected(),
+    }
+}
+
+// The corrections of n subjects and k conditions: the readings subject by subject, the conditions' means, and the F with its degrees of freedom.
+// Nothing but zeros where the sizes are not taken.
+pub fn compute_sphericity_corrections(
+    readings: &[f64],
+    means: &[f64],
+    n: usize,
+    k: usize,
+    f_stat: f64,
+    df_num: f64,
+    df_den: f64,
+) -> Corrections
+    ensures { λ r. ⌜ r ≡ computeSphericityCorrections n k (now (readings .entry)) (now (means .entry)) «f_stat» «df_num» «df_den» ⌝ }
+{
+    if fits(n, k, readings.len(), means.len()) {
+        let m = csc(readings, means, n, k);
+        return corrections_of(m, n, k, f_stat, df_num, df_den);
+    }
+    no_corrections()
+}
