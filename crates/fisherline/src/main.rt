@@ -1,6 +1,5 @@
 // Reads a reading set from standard input, and prints Fisher's analysis of it, or its refusal.
 mod answers;
-mod rows;
 
 // One byte more than the longest set, so that a longer one is told.
 fn main() {

@@ -66,8 +66,17 @@ fn bare(sound: bool) -> Head
     }
 }
 
-// Answers the case at the front of these bytes: its lines go into out from `at` on, and the place behind them is the result.
-pub fn answer(out: &mut Out, at: usize, bytes: &[u8], h: Head) -> usize
+// Answers the case at the front of these bytes: its lines go into out from `at` on, and the place behind them is the result. A case that is not whole has no answer.
+pub fn answer(out: &mut Out, at: usize, bytes: &[u8]) -> usize {
+    let h = head_of(bytes);
+    if bytes.len() < h.length {
+        return at;
+    }
+    answer_of(out, at, bytes, h)
+}
+
+// The answer of the case with this head, which is whole.
+fn answer_of(out: &mut Out, at: usize, bytes: &[u8], h: Head) -> usize
     requires { ⌜ Small h × (h .length ≤ length (now bytes)) ⌝ }
 {
     let ns = h.ns;

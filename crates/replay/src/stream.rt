@@ -56,7 +56,7 @@ fn turn(buffer: &mut [u8], out: &mut Out, s: Stream) -> Stream
     if part.len() < h.length {
         return read_on(buffer, s);
     }
-    let at = cases::answer(out, s.at, part, h);
+    let at = cases::answer(out, s.at, part);
     Stream {
         from: from + h.length,
         to: to,

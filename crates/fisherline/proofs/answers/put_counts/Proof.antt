@@ -1,4 +1,4 @@
--- `fisherline::rows::put_counts` meets its contract.
+-- `fisherline::answers::put_counts` meets its contract.
 use Prim.Native.Nat.{_≤_, _-_, _+_}
 use mathlib.Core.Path.{_≡_, _∙_}
 use native.Mathlib.Omega.{arith}
@@ -10,8 +10,8 @@ use Rattle.text.specs.Numbers.{numeralOf}
 use Rattle.fisherline.proofs.Spaced.{spaced-turn, spaced-ends}
 use Rattle.base.proofs.Runs.{run}
 use Rattle.fisherline.specs.Rows.{spacedDecimal}
-use Rattle.fisherline.proofs.rows.put_counts.Statement.{statement}
-use Rattle.fisherline.proofs.rows.put_counts.Tie as tie
+use Rattle.fisherline.proofs.answers.put_counts.Statement.{statement}
+use Rattle.fisherline.proofs.answers.put_counts.Tie as tie
 
 abbrev Inv-loop : tie.InvT-loop
 Inv-loop out₀ at ns a₀ i₀ t6 out a i =

@@ -1,10 +1,10 @@
--- `replay::cases::answer` meets its contract.
+-- `replay::cases::answer_of` meets its contract.
 use Prim.Native.Nat.{_-_}
 use native.Mathlib.Omega.{arith}
 use borrow.Author.Needs.{needs}
 use lib.ListN.{length-take}
-use Rattle.replay.proofs.cases.answer.Statement.{statement}
-use Rattle.replay.proofs.cases.answer.Tie as tie
+use Rattle.replay.proofs.cases.answer_of.Statement.{statement}
+use Rattle.replay.proofs.cases.answer_of.Tie as tie
 
 add-to-a : tie.Need-add-to-a
 add-to-a c = omega arith
@@ -66,8 +66,8 @@ answer-requires c κs = search needs
 returns : tie.Need-returns
 returns c = search needs
 
-pub answer-spec : {M : Type 1} → statement M
-answer-spec =
+pub answer-of-spec : {M : Type 1} → statement M
+answer-of-spec =
     tie.close
     (tie.spec
     add-to-a

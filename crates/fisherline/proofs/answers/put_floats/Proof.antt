@@ -1,4 +1,4 @@
--- `fisherline::rows::put_floats` meets its contract.
+-- `fisherline::answers::put_floats` meets its contract.
 use Prim.Native.Nat.{ℕ, _≤_, _-_, _+_}
 use mathlib.Core.Path.{_≡_, _∙_, ap}
 use native.Mathlib.Omega.{arith}
@@ -13,8 +13,8 @@ use Rattle.fisherline.specs.Rows.{hexBits}
 use Rattle.fisherline.proofs.Spaced.{spaced-turn, spaced-ends}
 use Rattle.base.proofs.Runs.{run}
 use Rattle.fisherline.specs.Rows.{spacedHex}
-use Rattle.fisherline.proofs.rows.put_floats.Statement.{statement}
-use Rattle.fisherline.proofs.rows.put_floats.Tie as tie
+use Rattle.fisherline.proofs.answers.put_floats.Statement.{statement}
+use Rattle.fisherline.proofs.answers.put_floats.Tie as tie
 
 abbrev Inv-loop : tie.InvT-loop
 Inv-loop out₀ at xs a₀ i₀ t6 out a i =

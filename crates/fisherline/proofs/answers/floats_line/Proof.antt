@@ -1,4 +1,4 @@
--- `fisherline::rows::floats_line` meets its contract.
+-- `fisherline::answers::floats_line` meets its contract.
 use Prim.Native.Nat.{ℕ, _-_}
 use mathlib.Core.Path.{_≡_}
 use mathlib.Core.List.{List}
@@ -6,8 +6,8 @@ use borrow.Author.Needs.{needs}
 use Rattle.base.proofs.Runs.{run}
 use Rattle.fisherline.specs.Rows.{spacedHex, floatsLine, puts}
 use Rattle.fisherline.proofs.Spaced.{line-room, line-made, puts-length}
-use Rattle.fisherline.proofs.rows.floats_line.Statement.{statement}
-use Rattle.fisherline.proofs.rows.floats_line.Tie as tie
+use Rattle.fisherline.proofs.answers.floats_line.Statement.{statement}
+use Rattle.fisherline.proofs.answers.floats_line.Tie as tie
 
 -- the line, from its three calls
 made : (c : tie.After-slice-known4) → (let s = c .before .before .before .before .before .before .before .before .before .before .before .before .before .before .before .before .args in _≡_ {A = List ℕ × ℕ} (c .before .before .put2 .last .0, c .before .before .put2 .result) (puts (s .out .now) (s .at) (floatsLine (s .name .now) (s .xs .now))))

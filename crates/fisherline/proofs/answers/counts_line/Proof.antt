@@ -1,4 +1,4 @@
--- `fisherline::rows::counts_line` meets its contract.
+-- `fisherline::answers::counts_line` meets its contract.
 use Prim.Native.Nat.{ℕ, _-_}
 use mathlib.Core.Path.{_≡_}
 use mathlib.Core.List.{List}
@@ -6,8 +6,8 @@ use borrow.Author.Needs.{needs}
 use Rattle.base.proofs.Runs.{run}
 use Rattle.fisherline.specs.Rows.{spacedDecimal, countsLine, puts}
 use Rattle.fisherline.proofs.Spaced.{line-room, line-made, puts-length}
-use Rattle.fisherline.proofs.rows.counts_line.Statement.{statement}
-use Rattle.fisherline.proofs.rows.counts_line.Tie as tie
+use Rattle.fisherline.proofs.answers.counts_line.Statement.{statement}
+use Rattle.fisherline.proofs.answers.counts_line.Tie as tie
 
 -- the line, from its three calls
 made : (c : tie.After-slice-known4) → (let s = c .before .before .before .before .before .before .before .before .before .before .before .before .before .before .before .before .args in _≡_ {A = List ℕ × ℕ} (c .before .before .put2 .last .0, c .before .before .put2 .result) (puts (s .out .now) (s .at) (countsLine (s .name .now) (s .ns .now))))
