@@ -9,7 +9,7 @@ const BATCH_SECONDS: f64 = 0.002;
 enum Task {
     /// Print the times of the lines that were asked for.
     Time,
-    /// Print their names.
+    /// Print their names, each behind the number of things that one of its calls does.
     Names,
     /// Make so many calls on one side of one line, for a tool that counts.
     Run { line: String, ours: bool, calls: u64 },
@@ -27,11 +27,11 @@ impl Bench {
         match args.first().map(String::as_str) {
             Some("time") => {
                 println!(
-                    "{:22} {:>10} {:>10} {:>10} {:>10} {:>8} {:>8}",
+                    "{:26} {:>10} {:>10} {:>10} {:>10} {:>8} {:>8}",
                     "ns a call", "ours", "", "Rust", "", "ratio", ""
                 );
                 println!(
-                    "{:22} {:>10} {:>10} {:>10} {:>10} {:>8} {:>8}",
+                    "{:26} {:>10} {:>10} {:>10} {:>10} {:>8} {:>8}",
                     "", "least", "median", "least", "median", "least", "median"
                 );
                 Bench {
@@ -59,6 +59,19 @@ impl Bench {
         matches!(self.task, Task::Time)
     }
 
+    /// Is this line to be timed or run? Only then are its two sides compared first.
+    pub fn asks(&self, name: &str) -> bool {
+        match &self.task {
+            Task::Run { line, .. } => line == name,
+            Task::Names => false,
+            Task::Time => self.has_word(name),
+        }
+    }
+
+    fn has_word(&self, name: &str) -> bool {
+        self.words.is_empty() || self.words.iter().any(|w| name.contains(w.as_str()))
+    }
+
     pub fn line<A, B>(&mut self, name: &str, ours: impl FnMut() -> A, rust: impl FnMut() -> B) {
         self.line_of(name, 1, ours, rust);
     }
@@ -68,13 +81,13 @@ impl Bench {
         match &self.task {
             Task::Run { line, ours: is_ours, calls } => {
                 if line == name && *is_ours {
-                    batch(*calls / times, &mut ours);
+                    batch(*calls, &mut ours);
                 } else if line == name {
-                    batch(*calls / times, &mut rust);
+                    batch(*calls, &mut rust);
                 }
             }
-            _ if !self.words.is_empty() && !self.words.iter().any(|w| name.contains(w.as_str())) => {}
-            Task::Names => println!("{name}"),
+            _ if !self.has_word(name) => {}
+            Task::Names => println!("{times} {name}"),
             Task::Time => {
                 let o_calls = calls_in_a_batch(&mut ours);
                 let r_calls = calls_in_a_batch(&mut rust);
@@ -94,7 +107,7 @@ impl Bench {
                 let one = |ns: f64| ns / times as f64;
                 let (ol, om, rl, rm) = (one(o[0]), one(o[BATCHES / 2]), one(r[0]), one(r[BATCHES / 2]));
                 println!(
-                    "{name:22} {ol:10.1} {om:10.1} {rl:10.1} {rm:10.1} {:8.2} {:8.2}",
+                    "{name:26} {ol:10.1} {om:10.1} {rl:10.1} {rm:10.1} {:8.2} {:8.2}",
                     ol / rl,
                     om / rm
                 );

@@ -9,3 +9,8 @@ pub fn reading(i: usize) -> f64 {
 pub fn readings(n: usize) -> Vec<f64> {
     (0..n).map(reading).collect()
 }
+
+/// Rows of k readings, n of them: the rows differ, and so do the columns, each as far as its neighbour, so that no sum is noise alone.
+pub fn repeated(n: usize, k: usize) -> Vec<f64> {
+    (0..n * k).map(|i| reading(i) + 0.5 * (i / k) as f64 - (i % k) as f64).collect()
+}

@@ -25,7 +25,9 @@ pub fn lines(bench: &mut Bench) {
         let mut out = [0.0; ours::ONE_WAY];
         for (kind_name, kind, call) in KINDS {
             let name = format!("{kind_name} {k} x {n}");
-            agree(&name, &readings, &sizes, &groups, kind, call);
+            if bench.asks(&name) {
+                agree(&name, &readings, &sizes, &groups, kind, call);
+            }
             bench.line(
                 &name,
                 || call(black_box(&readings), black_box(&sizes), black_box(&mut out)),

@@ -1,4 +1,4 @@
-//! The exported calls of `crates/speed` and `crates/rates`, declared by hand: nothing checks these lines against the Rattle source.
+//! The exported calls of `crates/speed`, `crates/pace`, `crates/rates` and `crates/tempo`, declared by hand: nothing checks these lines against the Rattle source.
 //! A slice is passed as a pointer and a length. No call has a `requires`, so each is safe behind its wrapper.
 
 mod c {
@@ -56,6 +56,15 @@ mod c {
             out: *mut f64,
             places: usize,
         ) -> u32;
+        pub fn tempo_repeated(
+            readings: *const f64,
+            n: usize,
+            sizes: *const u32,
+            k: usize,
+            sphericity: u32,
+            out: *mut f64,
+            places: usize,
+        ) -> u32;
     }
 }
 
@@ -65,6 +74,9 @@ pub const ONE_WAY: usize = 25;
 /// How many numbers a two-way analysis hands out, and how many places of scratch it is lent.
 pub const TWO_WAY: usize = 6;
 pub const SCRATCH: usize = 6400;
+
+/// How many numbers an analysis of repeated measures hands out.
+pub const REPEATED: usize = 8;
 
 #[inline]
 pub fn fisher(readings: &[f64], sizes: &[u32], out: &mut [f64]) -> u32 {
@@ -147,6 +159,21 @@ pub fn two_way(values: &[f64], factor_a: &[u32], factor_b: &[u32], scratch: &mut
             factor_b.len(),
             scratch.as_mut_ptr(),
             scratch.len(),
+            out.as_mut_ptr(),
+            out.len(),
+        )
+    }
+}
+
+#[inline]
+pub fn repeated(readings: &[f64], sizes: &[u32], sphericity: u32, out: &mut [f64]) -> u32 {
+    unsafe {
+        c::tempo_repeated(
+            readings.as_ptr(),
+            readings.len(),
+            sizes.as_ptr(),
+            sizes.len(),
+            sphericity,
             out.as_mut_ptr(),
             out.len(),
         )

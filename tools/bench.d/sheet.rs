@@ -123,7 +123,9 @@ pub fn lines(bench: &mut Bench) {
         let history = History::of(operations);
         for (kind_name, kind, call) in KINDS {
             let name = format!("{what}, {kind_name}");
-            agree(&name, &history, kind, call);
+            if bench.asks(&name) {
+                agree(&name, &history, kind, call);
+            }
             let h = black_box(&history);
             let (mut ours, mut rust) = ([0.0; EDITS], [0.0; EDITS]);
             bench.line_of(

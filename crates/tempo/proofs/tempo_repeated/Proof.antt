@@ -1,0 +1,43 @@
+-- `tempo::tempo_repeated` meets its contract.
+use Prim.Native.Nat.{_-_}
+use borrow.Author.Needs.{needs}
+use borrow.Author.Tests.{lt-ltb}
+use Rattle.tempo.proofs.Laid.{accepted, refused}
+use Rattle.tempo.specs.Calls.{paced}
+use Rattle.tempo.proofs.tempo_repeated.Statement.{statement}
+use Rattle.tempo.proofs.tempo_repeated.Tie as tie
+
+returns : tie.Need-returns
+unfolding paced
+returns c = rw (lt-ltb _ 8 (c .if1 .taken))
+
+repeated-measures-anova-requires : tie.Need-repeated-measures-anova-requires
+repeated-measures-anova-requires c κs = search needs
+
+returns-2 : tie.Need-returns-2
+returns-2 c =
+    let r = c .before .repeated-measures-anova in
+    refused _ _ _ _ _ (r .ensures) (c .before .before .if1 .left) (c .if2 .taken)
+
+hand-out-requires : tie.Need-hand-out-requires
+hand-out-requires c κs = search needs
+
+same-length : tie.Need-same-length
+same-length c = search needs
+
+returns-3 : tie.Need-returns-3
+returns-3 c =
+    let e = c .before .before .before .before in
+    let r = e .before .repeated-measures-anova in
+    accepted _ _ _ _ _ (r .ensures) _ (e .before .before .if1 .left) (e .if2 .left) (c .before .before .hand-out .ensures)
+
+pub tempo-repeated-spec : {M : Type 1} → statement M
+tempo-repeated-spec =
+    tie.close
+    (tie.spec
+    returns
+    repeated-measures-anova-requires
+    returns-2
+    hand-out-requires
+    same-length
+    returns-3)
