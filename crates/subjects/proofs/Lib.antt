@@ -1,3 +1,4 @@
 pub mod Walk
 pub mod Doors
 pub mod Rows
+pub mod Columns

@@ -2,13 +2,13 @@
 use base::Refusal;
 ghost use mathlib.Core.Path.{_≡_};
 ghost use mathlib.Core.Bool.{false};
-ghost use Prim.Native.Nat.{_≤_, _<_};
+ghost use Prim.Native.Nat.{_≤_};
 ghost use lib.ListN.{length};
 ghost use Rattle.base.specs.Lists.{cut};
 ghost use Rattle.base.specs.Sizes.{Sized};
 ghost use Rattle.stats.specs.Sums.{hasNan};
 ghost use Rattle.subjects.specs.Checks.{conditions, designRefusal, subjectFault, subjectsRefusal, repeatedRefusal};
-ghost use Rattle.subjects.specs.Table.{Fitting, subjectMeans, conditionSum, conditionMeans, noTable, tableOf, rmTable};
+ghost use Rattle.subjects.specs.Table.{Fitting, subjectMeans, rowAdded, columnSums, conditionMeans, noTable, tableOf, rmTable};
 
 // The means of n subjects and k conditions, and the sums of squares. Unused places are zero.
 pub struct RmTable {
@@ -112,25 +112,37 @@ fn subject_means(readings: &[f64], n: usize, k: usize) -> [f64; 64]
     out
 }
 
-// The readings of condition j, subject after subject, added up.
-fn condition_sum(readings: &[f64], n: usize, k: usize, j: usize) -> f64
-    requires { ⌜ Fitting (now readings) n k × (j < k) ⌝ }
-    ensures { λ r. ⌜ r ≡ conditionSum (now (readings .entry)) n k j ⌝ }
+// A subject's readings, each added to its condition's sum.
+fn add_row(sums: &mut [f64], row: &[f64])
+    requires { ⌜ length (now row) ≤ length (now sums) ⌝ }
+    ensures { λ _. ⌜ now (sums .exit) ≡ rowAdded (now (row .entry)) (now (sums .entry)) ⌝ }
 {
-    let mut t = -0.0;
-    for i in 0..n {
-        t = t + readings[i * k + j];
+    for j in 0..row.len() {
+        sums[j] = sums[j] + row[j];
     }
-    t
+}
+
+// The sums of all conditions, in one walk over the readings: the sums do not wait for each other as they would one after another.
+fn condition_sums(readings: &[f64], n: usize, k: usize) -> [f64; 12]
+    requires { ⌜ Fitting (now readings) n k ⌝ }
+    ensures { λ r. ⌜ r ≡ columnSums (now (readings .entry)) n k ⌝ }
+{
+    let mut sums = [-0.0; 12];
+    for i in 0..n {
+        let at = i * k;
+        add_row(&mut sums, &readings[at..at + k]);
+    }
+    sums
 }
 
 fn condition_means(readings: &[f64], n: usize, k: usize) -> [f64; 12]
     requires { ⌜ Fitting (now readings) n k ⌝ }
     ensures { λ r. ⌜ r ≡ conditionMeans (now (readings .entry)) n k ⌝ }
 {
+    let sums = condition_sums(readings, n, k);
     let mut out = [0.0; 12];
     for j in 0..k {
-        out[j] = float::canon(condition_sum(readings, n, k, j) / (n as f64));
+        out[j] = float::canon(sums[j] / (n as f64));
     }
     out
 }
