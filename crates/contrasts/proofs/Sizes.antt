@@ -48,7 +48,7 @@ module _ (n k readings means room : ℕ) where
             room-asked h = rw (le-leb 2 n a, le-leb n 64 b, le-leb 2 k d, le-leb k 12 e, eq-eqb readings (n * k) f, le-leb k means h)
 
 -- where two tests both hold, each does
-both : (x y : Bool) → (x && y) ≡ true → (x ≡ true) × (y ≡ true)
+pub both : (x y : Bool) → (x && y) ≡ true → (x ≡ true) × (y ≡ true)
 both true y e = (refl, e)
 both false y e = (e, cc)
 

@@ -14,15 +14,12 @@ use lib.Seq.{take-take, getD-take, length-take-le, getD-set-same, getD-set-other
 use Rattle.base.specs.Lists.{total, cut}
 use Rattle.base.proofs.Bounds.{product-le, row-end}
 use Rattle.base.proofs.Cuts.{total-turn, total-split, cut-at}
+use Rattle.base.proofs.Sizes.{total-next}
 use Rattle.margins.specs.Table.{Starts, Laid, Line, Fitting, tableFits}
 
 either-false : (x : Bool) {y : Bool} → cond x false y ≡ true → (x ≡ false) × (y ≡ true)
 either-false false e = (refl, e)
 either-false true e = absurd (false≢true e)
-
--- one cell more
-pub total-next : (ns : List ℕ) (c : ℕ) → c < length ns → total (take (c + 1) ns) ≡ total (take c ns) + getD ns c 0
-total-next ns c h = omega (arith, total-split ns c, total-split ns (c + 1), total-turn ns c h)
 
 -- the cells before some end before
 pub total-within : (ns : List ℕ) (c k : ℕ) → c ≤ k → total (take c ns) ≤ total (take k ns)

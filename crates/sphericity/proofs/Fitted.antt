@@ -6,6 +6,7 @@ use borrow.Author.Tests.{le-leb, lt-leb, ne-eqb, eq-eqb, leb-true}
 use lib.Dec.{leb}
 use Rattle.base.specs.Limits.{mostSubjects, mostConditions}
 use Rattle.sphericity.specs.Corrections.{fits, Taken}
+use Rattle.contrasts.proofs.Sizes.{both}
 
 module _ (n k readings means : ℕ) where
   pub one-subject : n < 2 → false ≡ fits n k readings means
@@ -35,11 +36,6 @@ module _ (n k readings means : ℕ) where
           pub means-asked : readings ≡ n * k → leb k means ≡ fits n k readings means
           unfolding fits
           means-asked h = rw (le-leb 2 n a, le-leb n mostSubjects b, le-leb 3 k d, le-leb k mostConditions e, eq-eqb readings (n * k) h)
-
-both : (x y : Bool) → (x && y) ≡ true → (x ≡ true) × (y ≡ true)
-both true y e = (refl, e)
-both false true e = (e, refl)
-both false false e = (e, e)
 
 pub taken : (n k readings means : ℕ) → fits n k readings means ≡ true → Taken n k
 unfolding fits

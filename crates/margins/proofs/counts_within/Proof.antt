@@ -6,7 +6,8 @@ use borrow.Author.Needs.{needs}
 use lib.ListN.{take}
 use borrow.Author.Tests.{lt-leb, le-leb}
 use native.Mathlib.Nat.{add-zero}
-use Rattle.margins.proofs.Places.{total-next, total-within, over-left}
+use Rattle.base.proofs.Sizes.{total-next}
+use Rattle.margins.proofs.Places.{total-within, over-left}
 use Rattle.base.specs.Lists.{total}
 use Rattle.margins.proofs.counts_within.Statement.{statement}
 use Rattle.margins.proofs.counts_within.Tie as tie

@@ -5,7 +5,8 @@ use native.Mathlib.Omega.{arith}
 use borrow.Author.Needs.{needs}
 use lib.ListN.{length, length-set}
 use lib.ListN.{take, getD}
-use Rattle.margins.proofs.Places.{none-yet, starts-next, total-next, total-within}
+use Rattle.base.proofs.Sizes.{total-next}
+use Rattle.margins.proofs.Places.{none-yet, starts-next, total-within}
 use Rattle.margins.specs.Table.{Starts}
 use Rattle.base.specs.Lists.{total}
 use Rattle.margins.proofs.starts_of.Statement.{statement}
