@@ -1,4 +1,4 @@
--- The two epsilons: how far the conditions are from sphericity, 1.0 where they are not. There are n subjects, k conditions and p = k - 1 eigenvalues vs.
+-- The two epsilons: 1.0 where the conditions are spherical, less the further they are from it. There are n subjects, k conditions and p = k - 1 eigenvalues vs.
 use Prim.Native.Nat.{ℕ, _-_}
 use mathlib.Core.Bool.{Bool, cond, _&&_}
 use mathlib.Core.List.{List}
@@ -22,7 +22,7 @@ eigenvalues p m = take p (values p m)
 abbrev pub squareSum : List Float → Float
 squareSum vs = sumBy square vs
 
--- `sum * sum / (p as f64 * sum_sq)` where the squared sum is above 1e-15, which a NaN is not; else 1.0
+-- `sum * sum / (p as f64 * sum_sq)` where the sum of squares is above 1e-15, which a NaN is not; else 1.0
 unfoldable pub ggRaw : ℕ → List Float → Float
 ggRaw p vs = cond (lt tinier (squareSum vs)) ((sum vs ⊗ sum vs) ⊘ (count p ⊗ squareSum vs)) one
 
