@@ -5,7 +5,6 @@ mod tally;
 
 use base::Refusal;
 ghost use mathlib.Core.Path.{_≡_};
-ghost use Rattle.cells.specs.Checks.{twoWayRefusal};
 ghost use Rattle.cells.specs.Organized.{checkedData, organizeTwoWayData};
 
 // The design of readings that passed the checks, or a refusal. The cell (i, j) stands at place i * levels_b + j of cell_n.
@@ -17,15 +16,8 @@ pub struct TwoWayData {
     pub cell_n: [usize; 36],
 }
 
-// The two-way checks, in document 01's order; `lent` is how many places of scratch the caller lends.
-pub fn two_way_refusal(values: &[f64], factor_a: &[u32], factor_b: &[u32], lent: usize) -> Refusal
-    ensures { λ r. ⌜ r ≡ twoWayRefusal (now (values .entry)) (now («factor_a» .entry)) (now («factor_b» .entry)) lent ⌝ }
-{
-    let d = check_two_way_data(values, factor_a, factor_b, lent);
-    d.refusal
-}
-
-// The design alone, behind the same checks: nothing is sorted, and no scratch is touched.
+// The two-way checks, in document 01's order, and the design of what passes them; `lent` is how many places of scratch the caller lends.
+// Nothing is sorted, and no scratch is touched.
 pub fn check_two_way_data(
     values: &[f64],
     factor_a: &[u32],

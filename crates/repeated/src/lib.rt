@@ -28,7 +28,7 @@ pub struct RmAnovaResult {
 }
 
 // The answer that carries a refusal alone.
-pub fn refused(refusal: Refusal) -> RmAnovaResult
+fn refused(refusal: Refusal) -> RmAnovaResult
     ensures { λ r. ⌜ r ≡ refusedResult refusal ⌝ }
 {
     let s = sphericity::no_corrections();

@@ -16,7 +16,7 @@ use Rattle.cells.specs.Cells.{cellCounts, cellOrder}
 use Rattle.cells.specs.Checks.{levels, twoWayRefusal}
 use Rattle.cells.specs.Organized.{checkedData, organizeTwoWayData, leftAlone}
 use Rattle.cells.proofs.Designs.{Held, held, design-which, design-passes, design-there}
-use Rattle.type3.specs.Wiping.{wiped, zeros}
+use Rattle.lent.specs.Wiping.{wiped, zeros}
 use Rattle.twoway.specs.declared.TwoWayAnovaResult.{TwoWayAnovaResult}
 use Rattle.twoway.specs.Results.{answerOf}
 use Rattle.twoway.specs.Anova.{twoWayAnova, twoWayOf, untouched}

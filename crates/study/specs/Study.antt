@@ -10,7 +10,7 @@ use Rattle.float.specs.Words.{_⊕_, _⊖_, _⊘_, count, plusZero}
 use Rattle.cells.specs.Cells.{cellCounts}
 use Rattle.cells.specs.Checks.{levels, twoWayRefusal}
 use Rattle.balanced.specs.Squares.{otherCount}
-use Rattle.type3.specs.Wiping.{wiped}
+use Rattle.lent.specs.Wiping.{wiped}
 use Rattle.twoway.specs.declared.TwoWayAnovaResult.{TwoWayAnovaResult}
 use Rattle.twoway.specs.Anova.{twoWayOf}
 use Rattle.study.specs.declared.GaugeStudy.{GaugeStudy}

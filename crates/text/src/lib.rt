@@ -7,13 +7,13 @@ ghost use Rattle.text.specs.Numbers.{glyph, digits, widthOf, hexOf, nume
 ghost use Rattle.text.specs.Put.{putOf};
 
 // A number's decimal digits, in ASCII: the first len places. The others are 0.
-pub struct Numeral {
+struct Numeral {
     pub digits: [u8; 20],
     pub len: usize,
 }
 
 // The 16 upper-case hex digits of x, the most significant first.
-pub fn hex(x: u64) -> [u8; 16]
+fn hex(x: u64) -> [u8; 16]
     ensures { λ r. ⌜ r ≡ hexOf x ⌝ }
 {
     let mut out = [0u8; 16];
@@ -22,7 +22,7 @@ pub fn hex(x: u64) -> [u8; 16]
 }
 
 // The decimal digits of n, with no zeros in front: 0 is `0`.
-pub fn decimal(n: u64) -> Numeral
+fn decimal(n: u64) -> Numeral
     ensures { λ r. ⌜ r ≡ decimalOf n ⌝ }
 {
     let mut out = [0u8; 20];

@@ -23,7 +23,7 @@ use Rattle.base.proofs.Loops.{listed-length}
 use Rattle.float.specs.Words.{plusZero}
 use Rattle.margins.specs.Table.{cellTable, tableFits, tableOf, cellMean, cellMeans, noCells}
 use Rattle.type3.specs.Shape.{fits, factorFits}
-use Rattle.type3.specs.Wiping.{wiped, zeros}
+use Rattle.lent.specs.Wiping.{wiped, zeros}
 use Rattle.type3.specs.Answer.{type3Ss, allEffects}
 use Rattle.twoway.specs.declared.TwoWayAnovaResult.{TwoWayAnovaResult}
 use Rattle.twoway.specs.Results.{Small, answerOf, refusedResult}

@@ -14,7 +14,7 @@ use Rattle.margins.specs.Table.{cellMeans, tableOf}
 use Rattle.balanced.specs.declared.Effects.{Effects}
 use Rattle.balanced.specs.Squares.{otherCount, balancedSs}
 use Rattle.type3.specs.Answer.{allEffects}
-use Rattle.type3.specs.Wiping.{wiped}
+use Rattle.lent.specs.Wiping.{wiped}
 use Rattle.twoway.specs.declared.TwoWayAnovaResult.{TwoWayAnovaResult}
 use Rattle.twoway.specs.Results.{answerOf, refusedResult}
 

@@ -26,7 +26,7 @@ pub struct TwoWayAnovaResult {
 }
 
 // The answer that carries a refusal alone.
-pub fn refused(refusal: Refusal) -> TwoWayAnovaResult
+fn refused(refusal: Refusal) -> TwoWayAnovaResult
     ensures { λ r. ⌜ r ≡ refusedResult refusal ⌝ }
 {
     TwoWayAnovaResult {

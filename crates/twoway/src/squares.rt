@@ -19,7 +19,7 @@ pub fn squares(
 {
     let first = counts[0];
     if balanced::other_count(counts) == first {
-        type3::wipe(scratch);
+        lent::wipe(scratch);
         return balanced::balanced_ss(means, first, a, b);
     }
     let e = type3::type3_ss(values, factor_a, factor_b, a, b, scratch);

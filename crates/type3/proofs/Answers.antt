@@ -8,9 +8,9 @@ use lib.Ieee.{Float}
 use Rattle.base.specs.Limits.{scratchPlaces}
 use Rattle.type3.specs.declared.Effects.{Effects}
 use Rattle.type3.specs.Shape.{fits}
-use Rattle.type3.specs.Wiping.{wiped}
+use Rattle.lent.specs.Wiping.{wiped}
 use Rattle.type3.specs.Answer.{allEffects, noEffects, type3Ss}
-use Rattle.type3.proofs.Wipes.{wiped-again}
+use Rattle.lent.proofs.Wipes.{wiped-again}
 
 module _ (values : List Float) (us vs : List ℕ) (a b : ℕ) (work : List Float) where
   pub not-taken : fits (length values) (length us) (length vs) a b (length work) ≡ false → (work, noEffects) ≡ type3Ss values us vs a b work

@@ -6,7 +6,7 @@ use lib.ListN.{length, set, length-set, length-replicate}
 use lib.Ieee.{Float}
 use Rattle.base.proofs.Loops.{loop-length}
 use Rattle.float.specs.Words.{plusZero, one}
-use Rattle.type3.specs.Wiping.{zeros}
+use Rattle.lent.specs.Wiping.{zeros}
 use Rattle.type3.specs.Coding.{codeAt, codesFrom, productAt, productsOf, products, designRow}
 
 pub codes-length : (p levels u : ℕ) (x : List Float) → length (codesFrom p levels u x) ≡ length x

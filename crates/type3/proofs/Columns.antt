@@ -15,7 +15,7 @@ use Rattle.base.proofs.Bounds.{row-end}
 use Rattle.float.specs.Words.{_⊗_, plusZero, one}
 use Rattle.linear.specs.Rows.{at}
 use Rattle.base.proofs.Walks.{walks}
-use Rattle.type3.specs.Wiping.{zeros}
+use Rattle.lent.specs.Wiping.{zeros}
 use Rattle.type3.specs.Coding.{effectCode, codeAt, codesFrom, productAt, productsOf, products, designRow}
 use Rattle.type3.proofs.Sizes.{cells-most, columns}
 use Rattle.type3.proofs.Built.{codes-length, products-length}

@@ -1,5 +1,4 @@
 pub mod Fitted
-pub mod Wipes
 pub mod Ways
 pub mod Built
 pub mod Readings

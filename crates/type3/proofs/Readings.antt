@@ -8,7 +8,7 @@ use lib.Ieee.{Float, nan}
 use Rattle.base.specs.Loop.{loop}
 use Rattle.float.specs.Words.{_⊕_, _⊗_, plusZero}
 use Rattle.linear.specs.Rows.{at}
-use Rattle.type3.specs.Wiping.{zeros}
+use Rattle.lent.specs.Wiping.{zeros}
 use Rattle.type3.specs.Matrices.{table}
 use Rattle.type3.specs.Normal.{rowOf, productOf, normalAt, normalSystem}
 use Rattle.type3.specs.Steps.{addAt, addRow, addProducts}

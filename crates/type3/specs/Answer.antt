@@ -8,7 +8,7 @@ use Rattle.float.specs.Words.{plusZero}
 use Rattle.linear.specs.System.{solveLinearSystem}
 use Rattle.linear.specs.Inverse.{matrixInverse}
 use Rattle.type3.specs.Shape.{fits}
-use Rattle.type3.specs.Wiping.{wiped}
+use Rattle.lent.specs.Wiping.{wiped}
 use Rattle.type3.specs.Matrices.{leftHalf}
 use Rattle.type3.specs.Normal.{normalSystem}
 use Rattle.type3.specs.Wald.{waldSs}

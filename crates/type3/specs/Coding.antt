@@ -8,7 +8,7 @@ use lib.Ieee.{Float, neg}
 use Rattle.base.specs.Loop.{loop}
 use Rattle.float.specs.Words.{_⊗_, plusZero, one}
 use Rattle.linear.specs.Rows.{at}
-use Rattle.type3.specs.Wiping.{zeros}
+use Rattle.lent.specs.Wiping.{zeros}
 
 -- column k of a factor with so many levels, at the code u: 1 at its own level, -1 at the last level, else 0
 unfoldable pub effectCode : ℕ → ℕ → ℕ → Float

@@ -1,5 +1,4 @@
 pub mod Shape
-pub mod Wiping
 pub mod Coding
 pub mod Matrices
 pub mod Normal

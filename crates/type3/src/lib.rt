@@ -7,23 +7,12 @@ mod wald;
 
 ghost use mathlib.Core.Path.{_≡_};
 ghost use Rattle.type3.specs.Answer.{type3Ss};
-ghost use Rattle.type3.specs.Wiping.{wiped};
 
 // The sums of squares of factor A, of factor B and of their interaction.
 pub struct Effects {
     pub ss_a: f64,
     pub ss_b: f64,
     pub ss_ab: f64,
-}
-
-// The first 6,400 places, or all where there are fewer, become +0.0.
-pub fn wipe(work: &mut [f64])
-    ensures { λ _. ⌜ now (work .exit) ≡ wiped (now (work .entry)) ⌝ }
-{
-    let k = shape::used(work.len());
-    for i in 0..k {
-        work[i] = 0.0;
-    }
 }
 
 // The sums of squares of a by b levels. The first 6,400 places of the lent memory are used, and left as +0.0.
@@ -53,6 +42,6 @@ pub fn type3_ss(
         };
     }
     let e = wald::all_effects(values, factor_a, factor_b, a, b, &mut work[0..6400]);
-    wipe(work);
+    lent::wipe(work);
     e
 }

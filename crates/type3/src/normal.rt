@@ -49,7 +49,7 @@ pub fn normal_system(
     requires { ⌜ Fitting (now values) (now «factor_a») (now «factor_b») a b × (length (now m) ≡ a * b * (a * b + 1)) ⌝ }
     ensures { λ _. ⌜ now (m .exit) ≡ normalSystem (now (values .entry)) (now («factor_a» .entry)) (now («factor_b» .entry)) a b ⌝ }
 {
-    crate::wipe(m);
+    lent::wipe(m);
     for i in 0..values.len() {
         add_reading(a, b, factor_a[i], factor_b[i], values[i], m);
     }

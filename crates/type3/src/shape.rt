@@ -1,17 +1,6 @@
-// What is taken, and how much of the lent memory is used.
+// What is taken.
 ghost use mathlib.Core.Path.{_≡_};
-ghost use Prim.Native.Nat.{min};
 ghost use Rattle.type3.specs.Shape.{factorFits, fits};
-
-// The places that are used of so many.
-pub fn used(lent: usize) -> usize
-    ensures { λ r. ⌜ r ≡ min 6400 lent ⌝ }
-{
-    if base::SCRATCH_PLACES < lent {
-        return base::SCRATCH_PLACES;
-    }
-    lent
-}
 
 // Two to six levels, and a code for each of n readings.
 fn factor_fits(levels: usize, codes: usize, n: usize) -> bool

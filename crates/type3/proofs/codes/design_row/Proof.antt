@@ -3,7 +3,7 @@ use mathlib.Core.Path.{refl}
 use native.Mathlib.Omega.{arith}
 use borrow.Author.Needs.{needs}
 use Rattle.base.proofs.Bounds.{product-le}
-use Rattle.type3.specs.Wiping.{zeros}
+use Rattle.lent.specs.Wiping.{zeros}
 use Rattle.type3.proofs.Built.{row-built}
 use Rattle.type3.proofs.codes.design_row.Statement.{statement}
 use Rattle.type3.proofs.codes.design_row.Tie as tie

@@ -9,8 +9,8 @@ use Rattle.base.proofs.Bounds.{product-le}
 use Rattle.base.proofs.Loops.{step, ends}
 use Rattle.base.specs.Loop.{loop}
 use Rattle.type3.specs.Normal.{normalSystem}
-use Rattle.type3.specs.Wiping.{zeros}
-use Rattle.type3.proofs.Wipes.{wiped-short}
+use Rattle.lent.specs.Wiping.{zeros}
+use Rattle.lent.proofs.Wipes.{wiped-short}
 use Rattle.type3.proofs.Readings.{addReading, normal-walk}
 use Rattle.type3.proofs.normal.normal_system.Statement.{statement}
 use Rattle.type3.proofs.normal.normal_system.Tie as tie

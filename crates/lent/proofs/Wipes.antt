@@ -13,7 +13,7 @@ use lib.Seq.{drop-at}
 use lib.Ieee.{Float}
 use Rattle.base.specs.Limits.{scratchPlaces}
 use Rattle.float.specs.Words.{plusZero}
-use Rattle.type3.specs.Wiping.{zeros, wiped}
+use Rattle.lent.specs.Wiping.{zeros, wiped}
 
 fill-suc : (n : ℕ) (d : List Float) → n < length d → set (zeros n ++ drop n d) n plusZero ≡ zeros (suc n) ++ drop (suc n) d
 unfolding zeros

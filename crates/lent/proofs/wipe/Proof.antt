@@ -1,4 +1,4 @@
--- `type3::wipe` meets its contract.
+-- `lent::wipe` meets its contract.
 use Prim.Native.Nat.{_≤_, _-_}
 use mathlib.Core.Path.{_≡_, refl}
 use native.Mathlib.Omega.{arith}
@@ -8,10 +8,10 @@ use Prim.Native.Nat.{min}
 use mathlib.Core.List.{_++_}
 use lib.ListN.{drop}
 use Rattle.base.specs.Limits.{scratchPlaces}
-use Rattle.type3.specs.Wiping.{zeros}
-use Rattle.type3.proofs.Wipes.{wipe-more, wipe-done}
-use Rattle.type3.proofs.wipe.Statement.{statement}
-use Rattle.type3.proofs.wipe.Tie as tie
+use Rattle.lent.specs.Wiping.{zeros}
+use Rattle.lent.proofs.Wipes.{wipe-more, wipe-done}
+use Rattle.lent.proofs.wipe.Statement.{statement}
+use Rattle.lent.proofs.wipe.Tie as tie
 
 abbrev Inv-loop : tie.InvT-loop
 Inv-loop work₀ k i₀ work i = (k ≡ min scratchPlaces (length work₀)) × (i ≤ k) × (length work ≡ length work₀) × (work ≡ zeros i ++ drop i work₀)

@@ -1,7 +1,7 @@
--- `type3::shape::used` meets its contract.
+-- `lent::used` meets its contract.
 use native.Mathlib.Omega.{arith}
-use Rattle.type3.proofs.shape.used.Statement.{statement}
-use Rattle.type3.proofs.shape.used.Tie as tie
+use Rattle.lent.proofs.used.Statement.{statement}
+use Rattle.lent.proofs.used.Tie as tie
 
 returns : tie.Need-returns
 returns c = omega arith
