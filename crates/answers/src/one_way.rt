@@ -1,7 +1,7 @@
 // Kinds 3 and 4: one-way analysis, Fisher's and Welch's.
 use lines::Out;
 use oneway::AnovaKind;
-use oneway::OneWayAnovaResult;
+use results::OneWayAnovaResult;
 ghost use Prim.Native.Nat.{_≤_};
 
 pub fn fisher(out: &mut Out, at: usize, sizes: &[u32], readings: &[f64]) -> usize {
@@ -52,7 +52,7 @@ fn groups(out: &mut Out, at: usize, n: usize, sizes: [u32; 16], means: [f64; 16]
     if n > 16 {
         return at;
     }
-    let named = lines::words(out, at, b"sizes");
+    let named = text::put(out, at, b"sizes");
     let next = each_size(out, named, n, sizes);
     lines::list(out, next, b"\nmeans@\n", [0; 3], &means[..n])
 }
@@ -63,7 +63,8 @@ fn each_size(out: &mut Out, at: usize, n: usize, sizes: [u32; 16]) -> usize
     let mut next = at;
     let mut g = 0;
     while g < n {
-        next = lines::count(out, next, sizes[g] as u64);
+        let size = sizes[g] as u64;
+        next = lines::numbers(out, next, b"A", [size, 0, 0], [0.0; 10]);
         g += 1;
     }
     next

@@ -5,13 +5,14 @@ use lines::Out;
 const MOST_POWER: u32 = 11;
 
 pub fn roots(out: &mut Out, at: usize, readings: &[f64]) -> usize {
-    let mut next = lines::words(out, at, b"root");
+    let mut next = text::put(out, at, b"root");
     let mut i = 0;
     while i < readings.len() {
-        next = lines::double(out, next, root::sqrt(readings[i]));
+        let x = root::sqrt(readings[i]);
+        next = lines::numbers(out, next, b"0", [0; 3], [x; 10]);
         i += 1;
     }
-    lines::words(out, next, b"\n")
+    text::put(out, next, b"\n")
 }
 
 pub fn power(out: &mut Out, at: usize, option: u32, readings: &[f64]) -> usize {
@@ -26,5 +27,5 @@ pub fn power(out: &mut Out, at: usize, option: u32, readings: &[f64]) -> usize {
             );
         }
     }
-    lines::words(out, at, b"bad case\n")
+    text::put(out, at, b"bad case\n")
 }

@@ -8,7 +8,7 @@ use lib.ListN.{length}
 use Rattle.base.specs.Lists.{over}
 use Rattle.base.proofs.Runs.{run, length-run}
 use Rattle.oneway.specs.declared.AnovaKind.{AnovaKind}
-use Rattle.oneway.specs.declared.OneWayAnovaResult.{OneWayAnovaResult}
+use Rattle.results.specs.declared.OneWayAnovaResult.{OneWayAnovaResult}
 use Rattle.set.specs.Sets.{setAnova}
 use Rattle.set.proofs.Littles.{length-bytes}
 use Rattle.bench.specs.Calls.{floatBytes, figures, benchRefusal, benchOf}

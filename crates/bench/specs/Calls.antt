@@ -9,7 +9,7 @@ use Rattle.base.specs.declared.Refusal.{Refusal}
 use Rattle.base.specs.Lists.{over}
 use Rattle.base.specs.Refusals.{refuse, when, _orElse_}
 use Rattle.oneway.specs.declared.AnovaKind.{AnovaKind}
-use Rattle.oneway.specs.declared.OneWayAnovaResult.{OneWayAnovaResult}
+use Rattle.results.specs.declared.OneWayAnovaResult.{OneWayAnovaResult}
 use Rattle.set.specs.Bytes.{bytes}
 use Rattle.set.specs.Sets.{setAnova}
 

@@ -17,7 +17,7 @@ pub fn two_way(
     readings: &[f64],
 ) -> usize {
     if MOST_LENT < option as usize {
-        return lines::words(out, at, b"bad case\n");
+        return text::put(out, at, b"bad case\n");
     }
     two_way_in(out, at, option as usize, [1.5; 6500], a, b, readings)
 }
@@ -48,7 +48,7 @@ pub fn study(
     readings: &[f64],
 ) -> usize {
     if MOST_LENT < option as usize {
-        return lines::words(out, at, b"bad case\n");
+        return text::put(out, at, b"bad case\n");
     }
     study_in(out, at, option as usize, [1.5; 6500], a, b, readings)
 }

@@ -12,7 +12,7 @@ use Rattle.base.specs.declared.Refusal.{Refusal}
 use Rattle.base.specs.Refusals.{refuse}
 use Rattle.base.proofs.Runs.{run, length-run}
 use Rattle.oneway.specs.declared.AnovaKind.the-variants.{Fisher}
-use Rattle.oneway.specs.declared.OneWayAnovaResult.{OneWayAnovaResult}
+use Rattle.results.specs.declared.OneWayAnovaResult.{OneWayAnovaResult}
 use Rattle.set.specs.Sets.{setAnova}
 use Rattle.text.specs.Numbers.{hexOf, numeralOf, widthOf}
 use Rattle.text.proofs.Fills.{length-digits}

@@ -7,7 +7,7 @@ use lib.ListN.{length}
 use Rattle.base.specs.declared.Refusal.{Refusal}
 use Rattle.base.specs.Refusals.{refuse}
 use Rattle.oneway.specs.declared.AnovaKind.the-variants.{Fisher}
-use Rattle.oneway.specs.declared.OneWayAnovaResult.{OneWayAnovaResult}
+use Rattle.results.specs.declared.OneWayAnovaResult.{OneWayAnovaResult}
 use Rattle.set.specs.Sets.{setAnova}
 use Rattle.fisherline.specs.Rows.{countsLine, floatsLine, puts}
 

@@ -1,7 +1,7 @@
 // The text of an answer: lines with a name, and numbers that each stand behind a space.
 use base::Refusal;
 use oneway::AnovaKind;
-use oneway::OneWayAnovaResult;
+use results::OneWayAnovaResult;
 ghost use mathlib.Core.Path.{_≡_};
 ghost use Prim.Native.Nat.{_+_, _≤_};
 ghost use lib.ListN.{length};

@@ -30,13 +30,6 @@ pub fn list(out: &mut Out, at: usize, form: &[u8], counts: [u64; 3], doubles: &[
     next
 }
 
-// Puts text with no numbers.
-pub fn words(out: &mut Out, at: usize, text: &[u8]) -> usize
-    ensures { λ r. ⌜ (now (out .exit), r) ≡ wordsPut (now (out .entry), at) (now (text .entry)) ⌝ }
-{
-    text::put(out, at, text)
-}
-
 // The line of a refusal.
 pub fn refused(out: &mut Out, at: usize, r: Refusal) -> usize
     ensures { λ s. ⌜ (now (out .exit), s) ≡ refusedPut (now (out .entry), at) r ⌝ }
@@ -94,7 +87,7 @@ fn one(out: &mut Out, at: usize, doubles: &[f64], i: usize) -> usize
 }
 
 // A space and a double.
-pub fn double(out: &mut Out, at: usize, x: f64) -> usize
+fn double(out: &mut Out, at: usize, x: f64) -> usize
     ensures { λ r. ⌜ (now (out .exit), r) ≡ doublePut (now (out .entry), at) x ⌝ }
 {
     let next = text::put(out, at, b" ");
@@ -102,7 +95,7 @@ pub fn double(out: &mut Out, at: usize, x: f64) -> usize
 }
 
 // A space and a count.
-pub fn count(out: &mut Out, at: usize, n: u64) -> usize
+fn count(out: &mut Out, at: usize, n: u64) -> usize
     ensures { λ r. ⌜ (now (out .exit), r) ≡ countPut (now (out .entry), at) n ⌝ }
 {
     let next = text::put(out, at, b" ");

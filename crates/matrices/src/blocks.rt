@@ -28,7 +28,7 @@ pub fn side(option: u32, most: usize, extra: usize, count: usize) -> usize
 }
 
 pub fn bad_case(out: &mut Out, at: usize) -> usize {
-    lines::words(out, at, b"bad case\n")
+    text::put(out, at, b"bad case\n")
 }
 
 // Lays the list's doubles from `from` on into a block, row by row.
@@ -69,7 +69,7 @@ fn reading(list: &[f64], i: usize) -> f64 {
 pub fn put(out: &mut Out, at: usize, name: &[u8], m: &[f64], b: Block) -> usize
     requires { ⌜ Inside b × (1152 ≤ length (now m)) ⌝ }
 {
-    let mut next = lines::words(out, at, name);
+    let mut next = text::put(out, at, name);
     let mut start = b.start;
     let mut i = 0;
     while i < b.rows {
@@ -77,5 +77,5 @@ pub fn put(out: &mut Out, at: usize, name: &[u8], m: &[f64], b: Block) -> usize
         start += b.apart;
         i += 1;
     }
-    lines::words(out, next, b"\n")
+    text::put(out, next, b"\n")
 }

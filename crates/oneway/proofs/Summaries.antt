@@ -14,7 +14,8 @@ use Rattle.groups.specs.Rows.{rowOf}
 use Rattle.groups.specs.Soundness.{soundRefusal}
 use Rattle.groups.proofs.Counted.{sound}
 use Rattle.oneway.specs.declared.summary.Summary.{Summary}
-use Rattle.oneway.specs.Results.{sizeOf, rowMean, rowSqDev, nTotal, noSizes, noMeans, groupSizes, groupMeans, groupSqDevs, linesOf, row, summaryOf, Small, Long, Lined}
+use Rattle.oneway.specs.Summary.{sizeOf, rowMean, rowSqDev, nTotal, groupSizes, groupMeans, groupSqDevs, linesOf, row, summaryOf, Small, Long, Lined}
+use Rattle.results.specs.Results.{noSizes, noMeans}
 use Rattle.oneway.specs.Welch.{weightOf, weights, weighed, allWeighed}
 use Rattle.oneway.proofs.Columns.{lines-of}
 

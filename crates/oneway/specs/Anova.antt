@@ -9,10 +9,10 @@ use Rattle.groups.specs.declared.Row.{Row}
 use Rattle.door.specs.Checks.{oneWayRefusal}
 use Rattle.groups.specs.Rows.{rowOf}
 use Rattle.groups.specs.Soundness.{soundRefusal}
-use Rattle.oneway.specs.declared.OneWayAnovaResult.{OneWayAnovaResult}
+use Rattle.results.specs.declared.OneWayAnovaResult.{OneWayAnovaResult}
 use Rattle.oneway.specs.declared.AnovaKind.{AnovaKind}
 use Rattle.oneway.specs.declared.AnovaKind.the-variants.{Fisher, Welch}
-use Rattle.oneway.specs.Results.{refusedResult}
+use Rattle.results.specs.Results.{refusedResult}
 use Rattle.oneway.specs.Fisher.{fisherAnova}
 use Rattle.oneway.specs.Welch.{welchAnova}
 

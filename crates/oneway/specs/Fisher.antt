@@ -8,10 +8,10 @@ use Rattle.base.specs.Refusals.{none}
 use Rattle.float.specs.Words.{_⊕_, _⊖_, _⊗_, _⊘_, count, square}
 use Rattle.stats.specs.Sums.{sum, sumBy}
 use Rattle.groups.specs.declared.Row.{Row}
-use Rattle.oneway.specs.declared.OneWayAnovaResult.{OneWayAnovaResult}
+use Rattle.results.specs.declared.OneWayAnovaResult.{OneWayAnovaResult}
 use Rattle.oneway.specs.declared.fisher.Squares.{Squares}
 use Rattle.oneway.specs.declared.fisher.Squares.the-variants.{Between, Within}
-use Rattle.oneway.specs.Results.{nTotal, groupSizes, groupMeans}
+use Rattle.oneway.specs.Summary.{nTotal, groupSizes, groupMeans}
 
 -- what a group adds to the sums of squares: between the groups, its size times the squared distance of its mean from the grand mean; within, its own squared distances
 abbrev pub squaresOf : Squares → Row → Float

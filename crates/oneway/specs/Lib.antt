@@ -1,4 +1,4 @@
-pub mod Results
+pub mod Summary
 pub mod Fisher
 pub mod Welch
 pub mod Anova

@@ -9,13 +9,14 @@ use Rattle.base.specs.Refusals.{none}
 use Rattle.float.specs.Words.{_⊕_, _⊖_, _⊗_, _⊘_, count, square, plusZero, one, two, three, largest, tinier}
 use Rattle.stats.specs.Sums.{sumBy}
 use Rattle.groups.specs.declared.Row.{Row}
-use Rattle.oneway.specs.declared.OneWayAnovaResult.{OneWayAnovaResult}
+use Rattle.results.specs.declared.OneWayAnovaResult.{OneWayAnovaResult}
 use Rattle.oneway.specs.declared.welch.Weighed.{Weighed}
 use Rattle.oneway.specs.declared.welch.WelchSums.{WelchSums}
 use Rattle.oneway.specs.declared.welch.WelchTest.{WelchTest}
 use Rattle.oneway.specs.declared.welch.Share.{Share}
 use Rattle.oneway.specs.declared.welch.Share.the-variants.{Weight, Mean, Spread, Rest}
-use Rattle.oneway.specs.Results.{nTotal, groupSizes, groupMeans, noMeans}
+use Rattle.oneway.specs.Summary.{nTotal, groupSizes, groupMeans}
+use Rattle.results.specs.Results.{noMeans}
 
 -- a group's variance, from its row
 abbrev pub rowVariance : Row → Float

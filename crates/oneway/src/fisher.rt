@@ -1,13 +1,13 @@
 // Fisher's analysis, which takes the groups' variances for equal.
-use crate::OneWayAnovaResult;
 use crate::summary::Summary;
 use base::Refusal;
 use groups::Row;
+use results::OneWayAnovaResult;
 ghost use mathlib.Core.Path.{_≡_};
 ghost use mathlib.Core.List.{List};
 ghost use Rattle.groups.specs.declared.Row.{Row};
 ghost use Rattle.stats.specs.Sums.{sumBy};
-ghost use Rattle.oneway.specs.Results.{Long, Lined, linesOf, row, summaryOf};
+ghost use Rattle.oneway.specs.Summary.{Long, Lined, linesOf, row, summaryOf};
 ghost use Rattle.oneway.specs.Fisher.{squaresOf, fisherAnova};
 
 // What is added up over the rows.

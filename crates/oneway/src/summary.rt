@@ -6,7 +6,7 @@ ghost use lib.ListN.{take};
 ghost use Rattle.base.specs.Lists.{cut};
 ghost use Rattle.door.specs.Checks.{Passed};
 ghost use Rattle.groups.specs.Rows.{rowOf};
-ghost use Rattle.oneway.specs.Results.{Small, summaryOf};
+ghost use Rattle.oneway.specs.Summary.{Small, summaryOf};
 
 // Zeros stand behind the groups' numbers.
 pub struct Summary {

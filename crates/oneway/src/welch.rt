@@ -1,14 +1,14 @@
 // Welch's analysis, which lets the groups' variances differ: each group has a weight.
-use crate::OneWayAnovaResult;
 use crate::summary::Summary;
 use base::Refusal;
 use groups::Row;
+use results::OneWayAnovaResult;
 ghost use mathlib.Core.Path.{_≡_};
 ghost use mathlib.Core.List.{List};
 ghost use Prim.Native.Nat.{_≤_};
 ghost use Rattle.groups.specs.declared.Row.{Row};
 ghost use Rattle.stats.specs.Sums.{sumBy};
-ghost use Rattle.oneway.specs.Results.{Long, Lined, linesOf, row, summaryOf};
+ghost use Rattle.oneway.specs.Summary.{Long, Lined, linesOf, row, summaryOf};
 ghost use Rattle.oneway.specs.Welch.{weigh, weighed, weights, shareOf, welchSums, welchTest, welchAnova};
 
 // A row with its weight in place of its squared distances.

@@ -8,7 +8,7 @@ use lib.Ieee.{Float}
 use lib.ListN.{length, getD, set}
 use Rattle.float.specs.Words.{plusZero}
 use Rattle.oneway.specs.declared.AnovaKind.{AnovaKind}
-use Rattle.oneway.specs.declared.OneWayAnovaResult.{OneWayAnovaResult}
+use Rattle.results.specs.declared.OneWayAnovaResult.{OneWayAnovaResult}
 use Rattle.sheet.specs.declared.Sheet.{Sheet}
 use Rattle.sheet.specs.declared.Edit.{Edit}
 use Rattle.sheet.specs.Calls.{callOf, called, reportOf}

@@ -10,8 +10,9 @@ use Rattle.float.specs.Words.{_⊖_, _⊗_, _⊘_, count, one, plusZero}
 use Rattle.subjects.specs.declared.RmTable.{RmTable}
 use Rattle.subjects.specs.Table.{noSubjects, noConditions}
 use Rattle.tables.specs.Rows.{effectRow, plainRow, noRow}
-use Rattle.sphericity.specs.declared.Corrections.{Corrections}
-use Rattle.sphericity.specs.Corrections.{noCorrections, computeSphericityCorrections}
+use Rattle.results.specs.declared.Corrections.{Corrections}
+use Rattle.results.specs.Corrections.{noCorrections}
+use Rattle.sphericity.specs.Corrections.{computeSphericityCorrections}
 use Rattle.repeated.specs.declared.RmAnovaResult.{RmAnovaResult}
 
 -- the degrees of freedom, worked out in floats as the source does

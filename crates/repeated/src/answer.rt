@@ -1,7 +1,7 @@
 // The answer of a repeated-measures analysis, once its table is known.
 use crate::RmAnovaResult;
 use base::Refusal;
-use sphericity::Corrections;
+use results::Corrections;
 use subjects::RmTable;
 ghost use mathlib.Core.Path.{_≡_};
 ghost use Prim.Native.Nat.{_≤_};
@@ -41,7 +41,7 @@ fn corrections(
             df_den,
         );
     }
-    sphericity::no_corrections()
+    results::no_corrections()
 }
 
 pub fn answer(

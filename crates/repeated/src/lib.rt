@@ -2,8 +2,8 @@
 mod answer;
 
 use base::Refusal;
-use sphericity::CorrectedResult;
-use sphericity::SphericityResult;
+use results::CorrectedResult;
+use results::SphericityResult;
 use tables::AnovaTableRow;
 ghost use mathlib.Core.Path.{_≡_};
 ghost use Rattle.repeated.specs.Results.{refusedResult};
@@ -31,7 +31,7 @@ pub struct RmAnovaResult {
 fn refused(refusal: Refusal) -> RmAnovaResult
     ensures { λ r. ⌜ r ≡ refusedResult refusal ⌝ }
 {
-    let s = sphericity::no_corrections();
+    let s = results::no_corrections();
     let mauchly = s.sphericity;
     let gg = s.greenhouse_geisser;
     let hf = s.huynh_feldt;

@@ -37,6 +37,6 @@ pub fn answer(
         15 => spectra::qr(out, at, option, readings),
         16 => spectra::orthonormalize(out, at, option, readings),
         17 => roots::power(out, at, option, readings),
-        _ => lines::words(out, at, b"unknown kind\n"),
+        _ => text::put(out, at, b"unknown kind\n"),
     }
 }

@@ -130,7 +130,7 @@ fn finish(out: &mut Out, s: Stream) {
         written(out, s.at, 0);
         return;
     }
-    let at = lines::words(out, s.at, b"broken stream\n");
+    let at = text::put(out, s.at, b"broken stream\n");
     written(out, at, 0);
 }
 

@@ -15,8 +15,8 @@ use Rattle.base.proofs.Order.{both-passed, no-fault, needed-there, told, told-w
 use Rattle.base.proofs.Parts.{rest-part}
 use Rattle.base.proofs.Words.{length-words}
 use Rattle.oneway.specs.declared.AnovaKind.{AnovaKind}
-use Rattle.oneway.specs.declared.OneWayAnovaResult.{OneWayAnovaResult}
-use Rattle.oneway.specs.Results.{refusedResult}
+use Rattle.results.specs.declared.OneWayAnovaResult.{OneWayAnovaResult}
+use Rattle.results.specs.Results.{refusedResult}
 use Rattle.oneway.specs.Anova.{oneWayAnova}
 use Rattle.set.specs.declared.Contents.{Contents}
 use Rattle.set.specs.declared.ReadingSet.{ReadingSet}

@@ -10,8 +10,8 @@ use Rattle.base.specs.Lists.{total, over, words}
 use Rattle.base.specs.Refusals.{refuse, none, when, unless, _orElse_, guarded}
 use Rattle.float.specs.Words.{plusZero}
 use Rattle.oneway.specs.declared.AnovaKind.{AnovaKind}
-use Rattle.oneway.specs.declared.OneWayAnovaResult.{OneWayAnovaResult}
-use Rattle.oneway.specs.Results.{refusedResult, noSizes}
+use Rattle.results.specs.declared.OneWayAnovaResult.{OneWayAnovaResult}
+use Rattle.results.specs.Results.{refusedResult, noSizes}
 use Rattle.oneway.specs.Anova.{oneWayAnova}
 use Rattle.set.specs.declared.ReadingSet.{ReadingSet}
 use Rattle.set.specs.declared.Contents.{Contents}

@@ -1,7 +1,7 @@
 // The reading set: one-way data as bytes. First the contents, the group count and each group's size in two bytes; then the readings, eight bytes each. All little endian.
 use base::Refusal;
 use oneway::AnovaKind;
-use oneway::OneWayAnovaResult;
+use results::OneWayAnovaResult;
 ghost use mathlib.Core.Path.{_≡_};
 ghost use mathlib.Core.List.{map};
 ghost use Prim.Native.Nat.{ℕ, _≤_, _*_};
@@ -146,7 +146,7 @@ pub fn set_anova(set: &[u8], kind: AnovaKind) -> OneWayAnovaResult
     let s = read_set(set);
     let refusal = s.refusal;
     if refusal.number != 0 {
-        return oneway::refused(refusal);
+        return results::refused(refusal);
     }
     let k = s.n_groups;
     let n = s.n_total;

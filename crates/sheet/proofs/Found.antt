@@ -20,7 +20,7 @@ use Rattle.groups.specs.Rows.{rowOf, rowAnswer}
 use Rattle.groups.specs.Soundness.{sizesIn, Sound}
 use Rattle.groups.proofs.Counted.{unread, length-sizes, size-at}
 use Rattle.groups.proofs.Laid.{row-there}
-use Rattle.oneway.specs.Results.{Small}
+use Rattle.oneway.specs.Summary.{Small}
 use Rattle.sheet.specs.declared.Sheet.{Sheet}
 use Rattle.sheet.specs.declared.Edit.{Edit}
 use Rattle.sheet.specs.Moved.{inserted, deleted}

@@ -24,7 +24,7 @@ use Rattle.groups.specs.Rows.{rowOf, rowsOf, emptyRows}
 use Rattle.groups.specs.Soundness.{soundRefusal, Sound}
 use Rattle.groups.proofs.Counted.{sound-passes}
 use Rattle.oneway.specs.declared.AnovaKind.{AnovaKind}
-use Rattle.oneway.specs.Results.{refusedResult}
+use Rattle.results.specs.Results.{refusedResult}
 use Rattle.oneway.specs.Anova.{anova, oneWayAnova, rowsReport}
 use Rattle.sheet.specs.declared.Sheet.{Sheet}
 use Rattle.sheet.specs.declared.Edit.{Edit}

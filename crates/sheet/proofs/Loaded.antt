@@ -22,8 +22,8 @@ use Rattle.groups.specs.Soundness.{soundRefusal}
 use Rattle.groups.proofs.Counted.{sound}
 use Rattle.door.proofs.Doors.{passed}
 use Rattle.oneway.specs.declared.AnovaKind.{AnovaKind}
-use Rattle.oneway.specs.declared.OneWayAnovaResult.{OneWayAnovaResult}
-use Rattle.oneway.specs.Results.{refusedResult}
+use Rattle.results.specs.declared.OneWayAnovaResult.{OneWayAnovaResult}
+use Rattle.results.specs.Results.{refusedResult}
 use Rattle.oneway.specs.Anova.{anova, rowsReport}
 use Rattle.groups.proofs.Told.{which, passes}
 use Rattle.sheet.specs.declared.Sheet.{Sheet}

@@ -13,7 +13,7 @@ use Rattle.groups.specs.declared.Row.{Row}
 use Rattle.door.specs.Checks.{oneWayRefusal}
 use Rattle.groups.specs.Soundness.{sizesIn, soundRefusal}
 use Rattle.oneway.specs.declared.AnovaKind.{AnovaKind}
-use Rattle.oneway.specs.declared.OneWayAnovaResult.{OneWayAnovaResult}
+use Rattle.results.specs.declared.OneWayAnovaResult.{OneWayAnovaResult}
 use Rattle.oneway.specs.Anova.{rowsReport}
 use Rattle.sheet.specs.declared.Sheet.{Sheet}
 use Rattle.sheet.specs.declared.Edit.{Edit}

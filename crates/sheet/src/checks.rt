@@ -5,7 +5,7 @@ ghost use mathlib.Core.Path.{_≡_};
 ghost use Rattle.base.specs.Lists.{total};
 ghost use Rattle.base.specs.Refusals.{_orElse_};
 ghost use Rattle.groups.specs.Soundness.{sizesIn, soundRefusal};
-ghost use Rattle.oneway.specs.Results.{Small};
+ghost use Rattle.oneway.specs.Summary.{Small};
 ghost use Rattle.sheet.specs.Calls.{Call, noPlace, refusalOf, usedIn};
 
 // How many readings lie ahead of group n, which is where its own begin: as many as the n groups before it have.

@@ -5,7 +5,7 @@ mod places;
 use base::Refusal;
 use groups::Row;
 use oneway::AnovaKind;
-use oneway::OneWayAnovaResult;
+use results::OneWayAnovaResult;
 ghost use mathlib.Core.Path.{_≡_};
 ghost use Rattle.sheet.specs.Calls.{Call, callOf, loadOf, reportOf};
 

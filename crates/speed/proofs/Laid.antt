@@ -8,7 +8,7 @@ use lib.Ieee.{Float}
 use lib.ListN.{length, take, drop, length-append, length-drop, drop-of-length-le}
 use lib.Seq.{take-at, drop-at, drop-drop, take-all}
 use Rattle.base.specs.Lists.{over}
-use Rattle.oneway.specs.declared.OneWayAnovaResult.{OneWayAnovaResult}
+use Rattle.results.specs.declared.OneWayAnovaResult.{OneWayAnovaResult}
 use Rattle.speed.specs.Calls.{numbersOf, handed}
 
 -- one list over all of the places, and then another over those from k on

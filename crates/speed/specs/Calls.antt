@@ -7,7 +7,7 @@ use lib.Ieee.{Float}
 use lib.ListN.{length}
 use Rattle.base.specs.Lists.{over}
 use Rattle.oneway.specs.declared.AnovaKind.{AnovaKind}
-use Rattle.oneway.specs.declared.OneWayAnovaResult.{OneWayAnovaResult}
+use Rattle.results.specs.declared.OneWayAnovaResult.{OneWayAnovaResult}
 use Rattle.oneway.specs.Anova.{oneWayAnova}
 
 -- the numbers of an answer, in their order

@@ -6,14 +6,15 @@ use lib.Dec.{leb, eqb}
 use lib.Ieee.{Float}
 use lib.ListN.{length}
 use Rattle.base.specs.Limits.{mostSubjects, mostConditions}
-use Rattle.float.specs.Words.{_⊗_, plusZero}
+use Rattle.float.specs.Words.{_⊗_}
 use Rattle.eigen.specs.Values.{zeros}
 use Rattle.contrasts.specs.Contrasts.{contrastCovariance}
 use Rattle.sphericity.specs.Epsilons.{eigenvalues, epsilonGg, epsilonHf}
 use Rattle.sphericity.specs.Mauchly.{mauchlyW, dfW}
-use Rattle.sphericity.specs.declared.SphericityResult.{SphericityResult}
-use Rattle.sphericity.specs.declared.CorrectedResult.{CorrectedResult}
-use Rattle.sphericity.specs.declared.Corrections.{Corrections}
+use Rattle.results.specs.Corrections.{noCorrections}
+use Rattle.results.specs.declared.SphericityResult.{SphericityResult}
+use Rattle.results.specs.declared.CorrectedResult.{CorrectedResult}
+use Rattle.results.specs.declared.Corrections.{Corrections}
 
 -- C S C', k - 1 rows of k - 1 places, in the first of 121 places
 unfoldable pub csc : ℕ → ℕ → List Float → List Float → List Float
@@ -42,23 +43,6 @@ correctionsOf n k m f dn dd = record {
   sphericity = sphericityOf (k - 1) m;
   «greenhouse_geisser» = corrected f dn dd (ggOf k m);
   «huynh_feldt» = corrected f dn dd (epsilonHf n k (ggOf k m));
-}
-
--- zeros for one corrected analysis
-abbrev pub noCorrected : CorrectedResult
-noCorrected = record {
-  epsilon = plusZero;
-  «df_num_corrected» = plusZero;
-  «df_den_corrected» = plusZero;
-  «f_statistic» = plusZero;
-}
-
--- nothing but zeros
-abbrev pub noCorrections : Corrections
-noCorrections = record {
-  sphericity = record { w = plusZero; df = plusZero };
-  «greenhouse_geisser» = noCorrected;
-  «huynh_feldt» = noCorrected;
 }
 
 -- 2 to 64 subjects, 3 to 12 conditions, a reading for each of both, a mean for each condition

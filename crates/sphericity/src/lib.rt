@@ -2,28 +2,10 @@
 mod epsilons;
 mod mauchly;
 
+use results::CorrectedResult;
+use results::Corrections;
 ghost use mathlib.Core.Path.{_≡_};
-ghost use Rattle.sphericity.specs.Corrections.{Taken, csc, corrected, correctionsOf, noCorrected, noCorrections, fits, computeSphericityCorrections};
-
-// Mauchly's W and its degrees of freedom.
-pub struct SphericityResult {
-    pub w: f64,
-    pub df: f64,
-}
-
-// The degrees of freedom times an epsilon, beside the F that they belong to.
-pub struct CorrectedResult {
-    pub epsilon: f64,
-    pub df_num_corrected: f64,
-    pub df_den_corrected: f64,
-    pub f_statistic: f64,
-}
-
-pub struct Corrections {
-    pub sphericity: SphericityResult,
-    pub greenhouse_geisser: CorrectedResult,
-    pub huynh_feldt: CorrectedResult,
-}
+ghost use Rattle.sphericity.specs.Corrections.{Taken, csc, corrected, correctionsOf, fits, computeSphericityCorrections};
 
 // Are there 2 to 64 subjects, 3 to 12 conditions, a reading for each of both, and a mean for each condition?
 fn fits(n: usize, k: usize, readings: usize, means: usize) -> bool
@@ -89,28 +71,6 @@ fn corrections_of(
     }
 }
 
-fn no_corrected() -> CorrectedResult
-    ensures { λ r. ⌜ r ≡ noCorrected ⌝ }
-{
-    CorrectedResult {
-        epsilon: 0.0,
-        df_num_corrected: 0.0,
-        df_den_corrected: 0.0,
-        f_statistic: 0.0,
-    }
-}
-
-// Nothing but zeros.
-pub fn no_corrections() -> Corrections
-    ensures { λ r. ⌜ r ≡ noCorrections ⌝ }
-{
-    Corrections {
-        sphericity: SphericityResult { w: 0.0, df: 0.0 },
-        greenhouse_geisser: no_corrected(),
-        huynh_feldt: no_corrected(),
-    }
-}
-
 // The corrections of n subjects and k conditions: the readings subject by subject, the conditions' means, and the F with its degrees of freedom.
 // Nothing but zeros where the sizes are not taken.
 pub fn compute_sphericity_corrections(
@@ -128,5 +88,5 @@ pub fn compute_sphericity_corrections(
         let m = csc(readings, means, n, k);
         return corrections_of(m, n, k, f_stat, df_num, df_den);
     }
-    no_corrections()
+    results::no_corrections()
 }

@@ -4,7 +4,7 @@ ghost use Prim.Native.Nat.{_*_, _≤_};
 ghost use lib.ListN.{length};
 ghost use Rattle.sphericity.specs.Corrections.{sphericityOf};
 ghost use Rattle.sphericity.specs.Mauchly.{trace, meanTrace, det, wRaw, mauchlyW, dfW};
-use super::SphericityResult;
+use results::SphericityResult;
 
 // The diagonal, added up in its order.
 fn trace(m: &[f64], p: usize) -> f64

@@ -13,8 +13,8 @@ use Rattle.base.specs.Sizes.{sizesRefusal}
 use Rattle.door.specs.Checks.{groupFault, groupsRefusal, oneWayRefusal}
 use Rattle.oneway.specs.declared.AnovaKind.{AnovaKind}
 use Rattle.oneway.specs.declared.AnovaKind.the-variants.{Fisher, Welch}
-use Rattle.oneway.specs.declared.OneWayAnovaResult.{OneWayAnovaResult}
-use Rattle.oneway.specs.Results.{noSizes, noMeans}
+use Rattle.results.specs.declared.OneWayAnovaResult.{OneWayAnovaResult}
+use Rattle.results.specs.Results.{noSizes, noMeans}
 use Rattle.oneway.specs.Fisher.{fisherAnova}
 use Rattle.oneway.specs.Welch.{welchAnova}
 use Rattle.oneway.specs.Anova.{anova, oneWayAnova}

@@ -1,7 +1,7 @@
 -- `set::refused` meets its contract.
 use Prim.Native.Nat.{_-_}
 use mathlib.Core.Path.{refl}
-use Rattle.oneway.specs.Results.{noSizes}
+use Rattle.results.specs.Results.{noSizes}
 use Rattle.set.specs.Sets.{noReadings}
 use Rattle.set.proofs.refused.Statement.{statement}
 use Rattle.set.proofs.refused.Tie as tie

@@ -12,7 +12,7 @@ use Rattle.base.proofs.Bounds.{row-end}
 use Rattle.base.proofs.Cuts.{total-done}
 use Rattle.base.proofs.Fills.{fill, fill-starts, fill-step, fill-ends}
 use Rattle.base.proofs.Words.{length-words}
-use Rattle.oneway.specs.Results.{noSizes}
+use Rattle.results.specs.Results.{noSizes}
 use Rattle.set.specs.Bytes.{little}
 use Rattle.set.proofs.Littles.{word-here, numbers-turn, little-two}
 use Rattle.set.proofs.sizes_in.Statement.{statement}

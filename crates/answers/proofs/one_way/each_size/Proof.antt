@@ -6,25 +6,28 @@ use Rattle.answers.proofs.one_way.each_size.Statement.{statement}
 use Rattle.answers.proofs.one_way.each_size.Tie as tie
 
 abbrev Inv-loop : tie.InvT-loop
-Inv-loop out₀ at n sizes next₀ g₀ out next g = g ≤ n
+Inv-loop out₀ at n sizes next₀ g₀ t9 out next g = g ≤ n
 
 abbrev μ-loop : tie.MeasureT-loop
-μ-loop out₀ at n sizes next₀ g₀ out next g = n - g
+μ-loop out₀ at n sizes next₀ g₀ t9 out next g = n - g
 
 loop-holds : tie.Need-loop-holds Inv-loop μ-loop
 loop-holds c = search needs
 
-mul-count : tie.Need-mul-count Inv-loop μ-loop
-mul-count c = omega arith
+mul-size : tie.Need-mul-size Inv-loop μ-loop
+mul-size c = omega arith
 
-array-read-count : tie.Need-array-read-count Inv-loop μ-loop
-array-read-count c = search needs
+array-read-size : tie.Need-array-read-size Inv-loop μ-loop
+array-read-size c = search needs
 
-cast-count : tie.Need-cast-count Inv-loop μ-loop
-cast-count c = search needs
+cast-size : tie.Need-cast-size Inv-loop μ-loop
+cast-size c = search needs
 
-count-requires : tie.Need-count-requires Inv-loop μ-loop
-count-requires c κs = search needs
+slice-aggregate-numbers : tie.Need-slice-aggregate-numbers Inv-loop μ-loop
+slice-aggregate-numbers c = search needs
+
+numbers-requires : tie.Need-numbers-requires Inv-loop μ-loop
+numbers-requires c κs = search needs
 
 add-g : tie.Need-add-g Inv-loop μ-loop
 add-g c = omega arith
@@ -45,10 +48,11 @@ each-size-spec =
     Inv-loop
     μ-loop
     loop-holds
-    mul-count
-    array-read-count
-    cast-count
-    count-requires
+    mul-size
+    array-read-size
+    cast-size
+    slice-aggregate-numbers
+    numbers-requires
     add-g
     loop-less
     loop-again

@@ -9,11 +9,11 @@ use Rattle.answers.proofs.one_way.groups.Tie as tie
 returns : tie.Need-returns
 returns c = search needs
 
-slice-aggregate-words : tie.Need-slice-aggregate-words
-slice-aggregate-words c = search needs
+slice-aggregate-put : tie.Need-slice-aggregate-put
+slice-aggregate-put c = search needs
 
-words-requires : tie.Need-words-requires
-words-requires c κs = search needs
+put-requires : tie.Need-put-requires
+put-requires c κs = search needs
 
 each-size-requires : tie.Need-each-size-requires
 each-size-requires c κs = search needs
@@ -38,8 +38,8 @@ groups-spec =
     tie.close
     (tie.spec
     returns
-    slice-aggregate-words
-    words-requires
+    slice-aggregate-put
+    put-requires
     each-size-requires
     slice-aggregate-list
     array-share-prefix-means

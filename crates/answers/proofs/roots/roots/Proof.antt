@@ -7,16 +7,16 @@ use Rattle.answers.proofs.roots.roots.Statement.{statement}
 use Rattle.answers.proofs.roots.roots.Tie as tie
 
 abbrev Inv-loop : tie.InvT-loop
-Inv-loop out₀ at readings next₀ i₀ t7 out next i = i ≤ length readings
+Inv-loop out₀ at readings next₀ i₀ t8 t9 out next i = i ≤ length readings
 
 abbrev μ-loop : tie.MeasureT-loop
-μ-loop out₀ at readings next₀ i₀ t7 out next i = length readings - i
+μ-loop out₀ at readings next₀ i₀ t8 t9 out next i = length readings - i
 
-slice-aggregate-words : tie.Need-slice-aggregate-words Inv-loop μ-loop
-slice-aggregate-words c = search needs
+slice-aggregate-put : tie.Need-slice-aggregate-put Inv-loop μ-loop
+slice-aggregate-put c = search needs
 
-words-requires : tie.Need-words-requires Inv-loop μ-loop
-words-requires c κs = search needs
+put-requires : tie.Need-put-requires Inv-loop μ-loop
+put-requires c κs = search needs
 
 loop-holds : tie.Need-loop-holds Inv-loop μ-loop
 loop-holds c = search needs
@@ -30,8 +30,11 @@ shared-slice-read-sqrt c = omega arith
 sqrt-requires : tie.Need-sqrt-requires Inv-loop μ-loop
 sqrt-requires c κs = search needs
 
-double-requires : tie.Need-double-requires Inv-loop μ-loop
-double-requires c κs = search needs
+slice-aggregate-numbers : tie.Need-slice-aggregate-numbers Inv-loop μ-loop
+slice-aggregate-numbers c = search needs
+
+numbers-requires : tie.Need-numbers-requires Inv-loop μ-loop
+numbers-requires c κs = search needs
 
 add-i : tie.Need-add-i Inv-loop μ-loop
 add-i c = omega arith
@@ -42,11 +45,11 @@ loop-less c = omega arith
 loop-again : tie.Need-loop-again Inv-loop μ-loop
 loop-again c = search needs
 
-slice-aggregate-words-2 : tie.Need-slice-aggregate-words-2 Inv-loop μ-loop
-slice-aggregate-words-2 c = search needs
+slice-aggregate-put-2 : tie.Need-slice-aggregate-put-2 Inv-loop μ-loop
+slice-aggregate-put-2 c = search needs
 
-words-requires-2 : tie.Need-words-requires-2 Inv-loop μ-loop
-words-requires-2 c κs = search needs
+put-requires-2 : tie.Need-put-requires-2 Inv-loop μ-loop
+put-requires-2 c κs = search needs
 
 returns : tie.Need-returns Inv-loop μ-loop
 returns c = search needs
@@ -57,16 +60,17 @@ roots-spec =
     (tie.spec
     Inv-loop
     μ-loop
-    slice-aggregate-words
-    words-requires
+    slice-aggregate-put
+    put-requires
     loop-holds
     mul-sqrt
     shared-slice-read-sqrt
     sqrt-requires
-    double-requires
+    slice-aggregate-numbers
+    numbers-requires
     add-i
     loop-less
     loop-again
-    slice-aggregate-words-2
-    words-requires-2
+    slice-aggregate-put-2
+    put-requires-2
     returns)

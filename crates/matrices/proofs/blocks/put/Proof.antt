@@ -11,8 +11,8 @@ Inv-loop out₀ at name m b next₀ start₀ i₀ t9 t10 out next start i = (i �
 abbrev μ-loop : tie.MeasureT-loop
 μ-loop out₀ at name m b next₀ start₀ i₀ t9 t10 out next start i = b .rows - i
 
-words-requires : tie.Need-words-requires Inv-loop μ-loop
-words-requires c κs = search needs
+put-requires : tie.Need-put-requires Inv-loop μ-loop
+put-requires c κs = search needs
 
 loop-holds : tie.Need-loop-holds Inv-loop μ-loop
 loop-holds c = (omega arith, omega arith)
@@ -50,11 +50,11 @@ loop-less c = omega arith
 loop-again : tie.Need-loop-again Inv-loop μ-loop
 loop-again c = (omega arith, omega arith)
 
-slice-aggregate-words : tie.Need-slice-aggregate-words Inv-loop μ-loop
-slice-aggregate-words c = search needs
+slice-aggregate-put : tie.Need-slice-aggregate-put Inv-loop μ-loop
+slice-aggregate-put c = search needs
 
-words-requires-2 : tie.Need-words-requires-2 Inv-loop μ-loop
-words-requires-2 c κs = search needs
+put-requires-2 : tie.Need-put-requires-2 Inv-loop μ-loop
+put-requires-2 c κs = search needs
 
 returns : tie.Need-returns Inv-loop μ-loop
 returns c = search needs
@@ -65,7 +65,7 @@ put-spec =
     (tie.spec
     Inv-loop
     μ-loop
-    words-requires
+    put-requires
     loop-holds
     slice-aggregate-list
     add-list
@@ -78,6 +78,6 @@ put-spec =
     add-i
     loop-less
     loop-again
-    slice-aggregate-words
-    words-requires-2
+    slice-aggregate-put
+    put-requires-2
     returns)

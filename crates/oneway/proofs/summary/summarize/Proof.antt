@@ -9,7 +9,8 @@ use Rattle.base.specs.Lists.{total, cut, over}
 use Rattle.base.proofs.Cuts.{total-turn}
 use Rattle.door.proofs.Walk.{fits-here, faults, fine-further}
 use Rattle.groups.proofs.Laid.{laying, row-turn, rows-done, rows-laid}
-use Rattle.oneway.specs.Results.{sizeOf, rowMean, rowSqDev, noSizes, noMeans}
+use Rattle.oneway.specs.Summary.{sizeOf, rowMean, rowSqDev}
+use Rattle.results.specs.Results.{noSizes, noMeans}
 use Rattle.oneway.proofs.Summaries.{column, summed}
 use Rattle.oneway.proofs.summary.summarize.Statement.{statement}
 use Rattle.oneway.proofs.summary.summarize.Tie as tie

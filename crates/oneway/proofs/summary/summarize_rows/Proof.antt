@@ -8,7 +8,8 @@ use lib.ListN.{take, drop}
 use lib.Seq.{length-take-le}
 use Rattle.base.specs.Lists.{total}
 use Rattle.base.proofs.Fills.{fill, fill-starts-of, fill-step-of, fill-ends-of}
-use Rattle.oneway.specs.Results.{sizeOf, rowMean, rowSqDev, nTotal, groupSizes, groupMeans, groupSqDevs, noSizes, noMeans}
+use Rattle.oneway.specs.Summary.{sizeOf, rowMean, rowSqDev, nTotal, groupSizes, groupMeans, groupSqDevs}
+use Rattle.results.specs.Results.{noSizes, noMeans}
 use Rattle.groups.specs.Soundness.{sizesIn}
 use Rattle.groups.proofs.Counted.{size-turn, size-done, unread}
 use Rattle.oneway.proofs.summary.summarize_rows.Statement.{statement}

@@ -4,7 +4,7 @@ use mathlib.Core.Path.{_∙_}
 use native.Mathlib.Omega.{arith}
 use borrow.Author.Needs.{needs}
 use Rattle.stats.proofs.Adding.{Left, sum-starts}
-use Rattle.oneway.specs.Results.{linesOf}
+use Rattle.oneway.specs.Summary.{linesOf}
 use Rattle.oneway.specs.Welch.{weighed, shareOf}
 use Rattle.oneway.proofs.Columns.{line-step, line-ends}
 use Rattle.oneway.proofs.welch.sum_weighed.Statement.{statement}

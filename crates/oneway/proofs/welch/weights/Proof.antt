@@ -8,7 +8,8 @@ use mathlib.Core.List.{map}
 use Rattle.base.specs.Lists.{over}
 use Rattle.base.proofs.Fills.{fill, fill-starts}
 use Rattle.oneway.specs.declared.welch.Weighed.{Weighed}
-use Rattle.oneway.specs.Results.{noMeans, linesOf, row}
+use Rattle.oneway.specs.Summary.{linesOf, row}
+use Rattle.results.specs.Results.{noMeans}
 use Rattle.oneway.specs.Welch.{weightOf}
 use Rattle.oneway.proofs.Columns.{lines-taken, fill-line, lines-filled}
 use Rattle.oneway.proofs.welch.weights.Statement.{statement}

@@ -1,16 +1,13 @@
--- The answer of a one-way analysis: what it tells of its groups, and what it is where it is refused.
+-- What an analysis needs of its groups: their rows, column by column.
 use Prim.Native.Nat.{ℕ, _≤_}
-use mathlib.Core.Bool.{false}
 use mathlib.Core.Path.{_≡_}
 use mathlib.Core.List.{List, [], _∷_, map}
 use lib.Ieee.{Float}
-use lib.ListN.{length, take, replicate}
-use Rattle.base.specs.declared.Refusal.{Refusal}
+use lib.ListN.{length, take}
 use Rattle.base.specs.Limits.{mostGroups, mostReadings}
 use Rattle.base.specs.Lists.{total, over}
-use Rattle.float.specs.Words.{plusZero}
 use Rattle.groups.specs.declared.Row.{Row}
-use Rattle.oneway.specs.declared.OneWayAnovaResult.{OneWayAnovaResult}
+use Rattle.results.specs.Results.{noSizes, noMeans}
 use Rattle.oneway.specs.declared.summary.Summary.{Summary}
 
 abbrev pub sizeOf : Row → ℕ
@@ -25,12 +22,6 @@ rowSqDev r = r .«sq_dev»
 -- how many readings the rows stand for
 abbrev pub nTotal : List Row → ℕ
 nTotal rs = total (map sizeOf rs)
-
-unfoldable pub noSizes : List ℕ
-noSizes = replicate mostGroups 0
-
-unfoldable pub noMeans : List Float
-noMeans = replicate mostGroups plusZero
 
 -- the groups' sizes, means and squared distances, and zeros behind them
 abbrev pub groupSizes : List Row → List ℕ
@@ -58,28 +49,6 @@ linesOf f k ns xs ys = lines f (take k ns) (take k xs) (take k ys)
 
 abbrev pub row : ℕ → Float → Float → Row
 row n m d = record { size = n; mean = m; «sq_dev» = d }
-
--- a refused analysis: every other field is zero
-abbrev pub refusedResult : Refusal → OneWayAnovaResult
-refusedResult r = record {
-  refusal = r;
-  statistic = plusZero;
-  «df_between» = plusZero;
-  «df_within» = plusZero;
-  «has_ss» = false;
-  «ss_between» = plusZero;
-  «ss_within» = plusZero;
-  «ss_total» = plusZero;
-  «has_ms» = false;
-  «ms_between» = plusZero;
-  «ms_within» = plusZero;
-  «n_groups» = 0;
-  «n_total» = 0;
-  «group_sizes» = noSizes;
-  «group_means» = noMeans;
-  «has_grand_mean» = false;
-  «grand_mean» = plusZero;
-}
 
 -- columns that have k lines
 pub record Long (k : ℕ) (ns : List ℕ) (xs ys : List Float) : Type 0 where

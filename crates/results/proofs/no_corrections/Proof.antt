@@ -1,8 +1,8 @@
--- `sphericity::no_corrections` meets its contract.
+-- `results::no_corrections` meets its contract.
 use Prim.Native.Nat.{_-_}
 use borrow.Author.Needs.{needs}
-use Rattle.sphericity.proofs.no_corrections.Statement.{statement}
-use Rattle.sphericity.proofs.no_corrections.Tie as tie
+use Rattle.results.proofs.no_corrections.Statement.{statement}
+use Rattle.results.proofs.no_corrections.Tie as tie
 
 no-corrected-requires : tie.Need-no-corrected-requires
 no-corrected-requires c κs = search needs

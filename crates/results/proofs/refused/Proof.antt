@@ -1,0 +1,13 @@
+-- `results::refused` meets its contract.
+use Prim.Native.Nat.{_-_}
+use mathlib.Core.Path.{refl}
+use Rattle.results.specs.Results.{noSizes, noMeans}
+use Rattle.results.proofs.refused.Statement.{statement}
+use Rattle.results.proofs.refused.Tie as tie
+
+returns : tie.Need-returns
+unfolding noSizes noMeans
+returns c = refl
+
+pub refused-spec : {M : Type 1} → statement M
+refused-spec = tie.close (tie.spec returns)

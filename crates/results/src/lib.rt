@@ -1,0 +1,93 @@
+// What analyses answer, where more than one crate makes the answer: one-way, and the corrections for a lack of sphericity.
+use base::Refusal;
+ghost use mathlib.Core.Path.{_≡_};
+ghost use Rattle.results.specs.Results.{refusedResult};
+ghost use Rattle.results.specs.Corrections.{noCorrected, noCorrections};
+
+// The answer of a one-way analysis. What Welch's has not is zero beside a mark that says so.
+pub struct OneWayAnovaResult {
+    pub refusal: Refusal,
+    pub statistic: f64,
+    pub df_between: f64,
+    pub df_within: f64,
+    pub has_ss: bool,
+    pub ss_between: f64,
+    pub ss_within: f64,
+    pub ss_total: f64,
+    pub has_ms: bool,
+    pub ms_between: f64,
+    pub ms_within: f64,
+    pub n_groups: usize,
+    pub n_total: u32,
+    pub group_sizes: [u32; 16],
+    pub group_means: [f64; 16],
+    pub has_grand_mean: bool,
+    pub grand_mean: f64,
+}
+
+// The answer that carries a refusal alone.
+pub fn refused(refusal: Refusal) -> OneWayAnovaResult
+    ensures { λ r. ⌜ r ≡ refusedResult refusal ⌝ }
+{
+    OneWayAnovaResult {
+        refusal: refusal,
+        statistic: 0.0,
+        df_between: 0.0,
+        df_within: 0.0,
+        has_ss: false,
+        ss_between: 0.0,
+        ss_within: 0.0,
+        ss_total: 0.0,
+        has_ms: false,
+        ms_between: 0.0,
+        ms_within: 0.0,
+        n_groups: 0,
+        n_total: 0,
+        group_sizes: [0; 16],
+        group_means: [0.0; 16],
+        has_grand_mean: false,
+        grand_mean: 0.0,
+    }
+}
+
+// Mauchly's W and its degrees of freedom.
+pub struct SphericityResult {
+    pub w: f64,
+    pub df: f64,
+}
+
+// The degrees of freedom times an epsilon, beside the F that they belong to.
+pub struct CorrectedResult {
+    pub epsilon: f64,
+    pub df_num_corrected: f64,
+    pub df_den_corrected: f64,
+    pub f_statistic: f64,
+}
+
+pub struct Corrections {
+    pub sphericity: SphericityResult,
+    pub greenhouse_geisser: CorrectedResult,
+    pub huynh_feldt: CorrectedResult,
+}
+
+fn no_corrected() -> CorrectedResult
+    ensures { λ r. ⌜ r ≡ noCorrected ⌝ }
+{
+    CorrectedResult {
+        epsilon: 0.0,
+        df_num_corrected: 0.0,
+        df_den_corrected: 0.0,
+        f_statistic: 0.0,
+    }
+}
+
+// Nothing but zeros.
+pub fn no_corrections() -> Corrections
+    ensures { λ r. ⌜ r ≡ noCorrections ⌝ }
+{
+    Corrections {
+        sphericity: SphericityResult { w: 0.0, df: 0.0 },
+        greenhouse_geisser: no_corrected(),
+        huynh_feldt: no_corrected(),
+    }
+}
