@@ -13,15 +13,16 @@ use Rattle.base.specs.Lists.{total, cut, over}
 use Rattle.base.proofs.Cuts.{cut-flatten, total-flatten}
 use Rattle.base.proofs.Runs.{length-over}
 use Rattle.stats.specs.Sums.{hasNan}
-use Rattle.cells.specs.Sorting.{keys}
 use Rattle.base.proofs.Order.{passed-answer, refused-answer, told, told-which}
-use Rattle.cells.specs.declared.TwoWayData.{TwoWayData}
-use Rattle.cells.specs.Cells.{cell, numbered, cells, cellOrder, cellCounts}
-use Rattle.cells.specs.Checks.{Leveled, levels, twoWayRefusal}
-use Rattle.cells.specs.Organized.{noCounts, twoWayData, leftAlone, organizeTwoWayData, checkedData, refusedData}
-use Rattle.cells.proofs.Keys.{key-codes, key-below, numbers-at, length-counts}
-use Rattle.cells.proofs.Tallies.{count-le-total, length-tally}
-use Rattle.cells.proofs.Doors.{Passed, passed, at-most-36, tally-counts, first-counts, total-counts}
+use Rattle.design.specs.declared.TwoWayData.{TwoWayData}
+use Rattle.design.specs.Cells.{cell, numbered, cells, cellCounts}
+use Rattle.design.specs.Checks.{Leveled, levels, twoWayRefusal}
+use Rattle.design.specs.Data.{noCounts, twoWayData}
+use Rattle.design.specs.Keys.{keys}
+use Rattle.design.proofs.Keys.{key-codes, key-below, numbers-at, length-counts}
+use Rattle.design.proofs.Tallies.{count-le-total, length-tally}
+use Rattle.design.proofs.Doors.{Passed, passed, at-most-36, tally-counts, first-counts, total-counts}
+use Rattle.cells.specs.Organized.{cellOrder, leftAlone, organizeTwoWayData}
 
 -- cell number c, and the cell of two codes, among all cells
 module _ (a b : ℕ) (xs : List Float) (us vs : List ℕ) where
@@ -94,23 +95,6 @@ module _ (xs : List Float) (us vs : List ℕ) (scratch after : List Float) (d : 
         places = ap (λ (q : List Float × TwoWayData). q .0) p;
         design = ap (λ (q : List Float × TwoWayData). q .1) p;
       }
-
--- the same of the design alone
-module _ (xs : List Float) (us vs : List ℕ) (lent : ℕ) (d : TwoWayData) (e : d ≡ checkedData xs us vs lent) where
-  design-number : d .refusal .number ≡ twoWayRefusal xs us vs lent .number
-  unfolding checkedData
-  design-number = told (twoWayRefusal xs us vs lent) refusedData _ (λ (q : TwoWayData). q .refusal) (λ r. refl) refl e
-
-  pub design-which : (d .refusal .number ≡ 0 → ⊥) → d .refusal ≡ twoWayRefusal xs us vs lent
-  unfolding checkedData
-  design-which n = told-which (twoWayRefusal xs us vs lent) refusedData _ (λ (q : TwoWayData). q .refusal) (λ r. refl) refl e n
-
-  pub design-passes : d .refusal .number ≡ 0 → twoWayRefusal xs us vs lent .number ≡ 0
-  design-passes z = sym design-number ∙ z
-
-  pub design-there : d .refusal .number ≡ 0 → d ≡ twoWayData (levels us) (levels vs) xs us vs
-  unfolding checkedData
-  design-there z = e ∙ passed-answer (twoWayRefusal xs us vs lent) refusedData _ (design-passes z)
 
 -- the same in terms of the answer alone, for code that goes on from it
 pub record Held (xs : List Float) (us vs : List ℕ) (scratch after : List Float) (d : TwoWayData) : Type 0 where

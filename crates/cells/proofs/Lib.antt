@@ -1,10 +1,6 @@
-pub mod Codes
-pub mod Keys
-pub mod Tallies
 pub mod Starts
 pub mod Sorts
-pub mod Empties
 pub mod Laying
-pub mod Doors
+pub mod Orders
 pub mod Answers
 pub mod Designs

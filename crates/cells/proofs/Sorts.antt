@@ -12,9 +12,10 @@ use lib.ListN.{length, getD, take, drop, set, length-set, length-append, length-
 use lib.Seq.{getD-set-same, getD-set-other, take-set-le, drop-set-lt, drop-set-add, take-suc-set, take-suc, take-all, length-take-le, ext-getD}
 use Rattle.base.specs.Lists.{total, cut, over}
 use Rattle.base.proofs.Cuts.{cut-at, length-cut, flatten-cut}
-use Rattle.cells.specs.Sorting.{keyed, sorted, tally, sums}
-use Rattle.cells.proofs.Keys.{Below}
-use Rattle.cells.proofs.Tallies.{length-tally, total-tally, tally-at, sorted-at, length-sorted}
+use Rattle.design.specs.Keys.{keyed, sorted, tally}
+use Rattle.design.proofs.Keys.{Below}
+use Rattle.design.proofs.Tallies.{length-tally, total-tally, tally-at, sorted-at, length-sorted}
+use Rattle.cells.specs.Sorting.{sums}
 use Rattle.cells.proofs.Starts.{length-sums, sums-at, ends-within, ends-before}
 
 pub keyed-append : (c : ℕ) (ks js : List ℕ) (xs ys : List Float) → length ks ≡ length xs → keyed c (ks ++ js) (xs ++ ys) ≡ keyed c ks xs ++ keyed c js ys

@@ -1,5 +1,3 @@
-pub mod Cells
-pub mod Checks
 pub mod Organized
 pub mod Sorting
 mod Worked

@@ -1,34 +1,21 @@
--- What `organize_two_way_data` answers, and what it leaves in the scratch.
+-- What `organize_two_way_data` answers, and what it leaves in the scratch. xs are the readings, us their codes of factor A, vs those of factor B.
 use Prim.Native.Nat.{ℕ}
-use mathlib.Core.List.{List}
+use mathlib.Core.List.{List, flatten}
 use lib.Ieee.{Float}
-use lib.ListN.{length, replicate}
+use lib.ListN.{length}
 use Rattle.base.specs.declared.Refusal.{Refusal}
 use Rattle.base.specs.Lists.{over}
-use Rattle.base.specs.Refusals.{none, guarded}
-use Rattle.cells.specs.declared.TwoWayData.{TwoWayData}
-use Rattle.cells.specs.Cells.{cellOrder, cellCounts}
-use Rattle.cells.specs.Checks.{levels, cellsRefusal, twoWayRefusal}
+use Rattle.base.specs.Refusals.{guarded}
+use Rattle.design.specs.declared.TwoWayData.{TwoWayData}
+use Rattle.design.specs.Cells.{cells}
+use Rattle.design.specs.Checks.{levels, twoWayRefusal}
+use Rattle.design.specs.Data.{refusedData, twoWayData}
 
--- 36 places for counts, each 0
-unfoldable pub noCounts : List ℕ
-noCounts = replicate 36 0
+-- the readings cell by cell, where the factors have a and b levels
+abbrev pub cellOrder : ℕ → ℕ → List Float → List ℕ → List ℕ → List Float
+cellOrder a b xs us vs = flatten (cells a b xs us vs)
 
-abbrev pub refusedData : Refusal → TwoWayData
-refusedData r = record { refusal = r; «levels_a» = 0; «levels_b» = 0; «n_total» = 0; «cell_n» = noCounts }
-
--- the design of a levels and b levels: the cells' counts, and 0 in the unused places
-abbrev pub twoWayData : ℕ → ℕ → List Float → List ℕ → List ℕ → TwoWayData
-twoWayData a b xs us vs =
-    record { refusal = none; «levels_a» = a; «levels_b» = b; «n_total» = length xs; «cell_n» = over (cellCounts a b xs us vs) noCounts }
-
--- the design behind the checks of the cells alone, and behind all of them
-unfoldable pub countedData : ℕ → ℕ → List Float → List ℕ → List ℕ → TwoWayData
-countedData a b xs us vs = guarded (cellsRefusal a b (length xs) (cellCounts a b xs us vs)) refusedData (twoWayData a b xs us vs)
-
-unfoldable pub checkedData : List Float → List ℕ → List ℕ → ℕ → TwoWayData
-checkedData xs us vs lent = guarded (twoWayRefusal xs us vs lent) refusedData (twoWayData (levels us) (levels vs) xs us vs)
-
+-- the refused call: the scratch as it was
 abbrev pub leftAlone : List Float → Refusal → List Float × TwoWayData
 leftAlone scratch r = (scratch, refusedData r)
 

@@ -1,37 +1,11 @@
--- How the code sorts: by the number of each reading's cell, its key. No public contract cites these words; `proofs/Keys.antt` shows that they give the cells.
-use Prim.Native.Nat.{ℕ, _+_, _*_, _≤_}
+-- How the code sorts: each reading is laid at the next free place of its cell. No public contract cites these words.
+use Prim.Native.Nat.{ℕ, _+_, _≤_}
 use mathlib.Core.Path.{_≡_}
-use mathlib.Core.Bool.{cond}
-use mathlib.Core.List.{List, [], _∷_, foldl, map}
-use lib.Dec.{eqb}
+use mathlib.Core.List.{List, [], _∷_}
 use lib.Ieee.{Float}
-use lib.ListN.{length, getD, set}
-use Rattle.cells.specs.Cells.{numbers}
-use Rattle.cells.specs.Checks.{Coded}
-use Rattle.cells.specs.Organized.{noCounts}
-
--- the number of each reading's cell, where factor B has b levels
-unfoldable pub keys : ℕ → List ℕ → List ℕ → List ℕ
-keys b [] vs = []
-keys b (u ∷ us) [] = []
-keys b (u ∷ us) (v ∷ vs) = (u * b + v) ∷ keys b us vs
-
--- the readings whose key is c
-unfoldable pub keyed : ℕ → List ℕ → List Float → List Float
-keyed c [] xs = []
-keyed c (k ∷ ks) [] = []
-keyed c (k ∷ ks) (x ∷ xs) = cond (eqb k c) (x ∷ keyed c ks xs) (keyed c ks xs)
-
--- the readings of each of 36 keys
-unfoldable pub sorted : List ℕ → List Float → List (List Float)
-sorted ks xs = map (λ (c : ℕ). keyed c ks xs) (numbers 0 36)
-
--- how many readings each key has: one more in its place for each
-abbrev pub bump : List ℕ → ℕ → List ℕ
-bump ns k = set ns k (getD ns k 0 + 1)
-
-unfoldable pub tally : List ℕ → List ℕ
-tally ks = foldl bump noCounts ks
+use lib.ListN.{length}
+use Rattle.design.specs.Checks.{Coded}
+use Rattle.design.specs.Keys.{keys, tally}
 
 -- where each of these begins, if the first begins at `at`
 unfoldable pub sums : ℕ → List ℕ → List ℕ

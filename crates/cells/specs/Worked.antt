@@ -1,29 +1,9 @@
--- Worked data: document 01's P8 and its neighbours, and four cells of a small design.
+-- Worked data: four cells of a small design.
 use mathlib.Core.Path.{_≡_, refl}
 use mathlib.Core.List.{[], _∷_, flatten}
-use lib.Ieee.{Float, isNan, ofBits}
-use Rattle.float.specs.Words.{count, plusZero}
-use Rattle.base.specs.Refusals.{refuse, none}
-use Rattle.stats.specs.Sums.{hasNan}
-use Rattle.cells.specs.Cells.{cell, numbers, cells, cellOrder, cellCounts}
-use Rattle.cells.specs.Checks.{largest, shapeRefusal, levelsRefusal, emptyRefusal, cellsRefusal, twoWayRefusal}
-
-abbrev x : Float
-x = plusZero
-
--- P8: one reading a cell is refused, one reading more is not
-p8 : (twoWayRefusal (x ∷ x ∷ x ∷ x ∷ []) (0 ∷ 0 ∷ 1 ∷ 1 ∷ []) (0 ∷ 1 ∷ 0 ∷ 1 ∷ []) 6400 ≡ refuse 2 5 4)
-    × (twoWayRefusal (x ∷ x ∷ x ∷ x ∷ x ∷ []) (0 ∷ 0 ∷ 1 ∷ 1 ∷ 0 ∷ []) (0 ∷ 1 ∷ 0 ∷ 1 ∷ 1 ∷ []) 6400 ≡ none)
-unfolding twoWayRefusal shapeRefusal levelsRefusal cellsRefusal emptyRefusal largest cells cell numbers hasNan isNan ofBits
-p8 = (refl, refl)
-
--- the cell (1, 0) has no reading; the code 4294967295; factors of another length before no values
-refused-worked : (twoWayRefusal (x ∷ x ∷ x ∷ []) (0 ∷ 0 ∷ 1 ∷ []) (0 ∷ 1 ∷ 1 ∷ []) 6400 ≡ refuse 7 1 0)
-    × (twoWayRefusal (x ∷ x ∷ []) (0 ∷ 4294967295 ∷ []) (0 ∷ 1 ∷ []) 6400 ≡ refuse 11 5 4294967296)
-    × (twoWayRefusal [] (0 ∷ []) [] 6400 ≡ refuse 5 1 0)
-    × (twoWayRefusal [] [] [] 6399 ≡ refuse 12 6400 6399)
-unfolding twoWayRefusal shapeRefusal levelsRefusal cellsRefusal emptyRefusal largest cells cell numbers hasNan isNan ofBits
-refused-worked = (refl, refl, refl, refl)
+use Rattle.float.specs.Words.{count}
+use Rattle.design.specs.Cells.{cell, numbers, cells, cellCounts}
+use Rattle.cells.specs.Organized.{cellOrder}
 
 -- five readings sorted into four cells: by A, then B, and in input order within a cell
 sorted-worked : (cellOrder 2 2 (count 1 ∷ count 2 ∷ count 3 ∷ count 4 ∷ count 5 ∷ []) (1 ∷ 0 ∷ 1 ∷ 0 ∷ 1 ∷ []) (0 ∷ 1 ∷ 0 ∷ 0 ∷ 1 ∷ []) ≡ count 4 ∷ count 2 ∷ count 1 ∷ count 3 ∷ count 5 ∷ [])

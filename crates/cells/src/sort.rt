@@ -1,11 +1,11 @@
 // The readings sorted by the number of their cell.
-use crate::tally;
 ghost use mathlib.Core.Path.{_≡_};
 ghost use mathlib.Core.List.{flatten};
 ghost use Prim.Native.Nat.{_≤_};
 ghost use lib.ListN.{length};
 ghost use Rattle.base.specs.Lists.{total, over};
-ghost use Rattle.cells.specs.Sorting.{keys, sums, sorted, Tallied};
+ghost use Rattle.design.specs.Keys.{keys, sorted};
+ghost use Rattle.cells.specs.Sorting.{sums, Tallied};
 
 // Where each cell begins: behind all readings of the cells before it.
 fn starts_of(counts: &[usize; 36]) -> [usize; 36]
@@ -38,7 +38,7 @@ pub fn lay(
     let mut next = starts_of(counts);
     let mut i = 0;
     while i < values.len() {
-        let c = tally::key(factor_a[i], factor_b[i], levels_b);
+        let c = (factor_a[i] as usize) * levels_b + (factor_b[i] as usize);
         let at = next[c];
         scratch[at] = values[i];
         next[c] = at + 1;

@@ -7,8 +7,8 @@ use lib.ListN.{length, set}
 use lib.Ieee.{Float}
 use Rattle.base.specs.Loop.{loop}
 use Rattle.base.proofs.Loops.{step}
-use Rattle.eigen.specs.Orthonormal.{orthonormalize}
-use Rattle.eigen.specs.Product.{blank, matrixMultiplyCsc}
+use Rattle.orthonormal.specs.Orthonormal.{orthonormalize}
+use Rattle.product.specs.Product.{blank, matrixMultiplyCsc}
 use Rattle.float.specs.Words.{_⊘_, count}
 use Rattle.contrasts.specs.Covariance.{covSum, covariance, covAt, covRows, noCovariances, covMatrix}
 use Rattle.contrasts.specs.Contrasts.{contrastRows, contrasts, orthonormalContrasts, throughContrasts, fits, contrastCovariance}

@@ -8,8 +8,8 @@ use lib.ListN.{length, set}
 use Rattle.base.specs.Limits.{mostSubjects, mostConditions}
 use Rattle.base.specs.Loop.{loop}
 use Rattle.float.specs.Words.{one}
-use Rattle.eigen.specs.Orthonormal.{orthonormalize}
-use Rattle.eigen.specs.Product.{blank, matrixMultiplyCsc}
+use Rattle.orthonormal.specs.Orthonormal.{orthonormalize}
+use Rattle.product.specs.Product.{blank, matrixMultiplyCsc}
 use Rattle.contrasts.specs.Covariance.{covMatrix}
 
 -- `c[i][i] = 1.0; c[i][i + 1] = -1.0`: condition i less the next one

@@ -7,7 +7,7 @@ use lib.ListN.{length, set, replicate}
 use Rattle.base.specs.Limits.{mostSubjects, mostConditions}
 use Rattle.base.specs.Loop.{loop}
 use Rattle.float.specs.Words.{_⊕_, _⊖_, _⊗_, _⊘_, count, plusZero}
-use Rattle.eigen.specs.Places.{at}
+use Rattle.flat.specs.Places.{at}
 
 -- `sum += (subject[i] - condition_means[i]) * (subject[j] - condition_means[j])`
 abbrev pub covStep : List Float → List Float → ℕ → ℕ → ℕ → ℕ → Float → Float

@@ -6,9 +6,9 @@ use lib.Ieee.{Float, add, sub, mul, div, neg, lt, ofBits, toBits, ofInt}
 use Rattle.base.specs.Loop.{loop, turns}
 use Rattle.float.specs.Words.{count, bits, plusZero}
 use Rattle.root.specs.Root.{isqrt, significand, exponent, radicand, rootBits, sqrtOf}
-use Rattle.eigen.specs.Places.{refuses, dot}
-use Rattle.eigen.specs.Orthonormal.{lessRow, overRow, projectRow, projectRows, normalizeRow, orthonormalRow, orthonormalRows, orthonormalize}
-use Rattle.eigen.specs.Product.{productRow, product, blank, csc, matrixMultiplyCsc}
+use Rattle.flat.specs.Places.{refuses, dot}
+use Rattle.orthonormal.specs.Orthonormal.{lessRow, overRow, projectRow, projectRows, normalizeRow, orthonormalRow, orthonormalRows, orthonormalize}
+use Rattle.product.specs.Product.{productRow, product, blank, csc, matrixMultiplyCsc}
 use Rattle.contrasts.specs.Covariance.{covSum, covariance, covRow, covRows, noCovariances, covMatrix}
 use Rattle.contrasts.specs.Contrasts.{contrastRow, contrastRows, contrasts, orthonormalContrasts, throughContrasts, fits, contrastCovariance}
 

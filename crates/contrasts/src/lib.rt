@@ -42,8 +42,8 @@ fn through_contrasts(readings: &[f64], means: &[f64], n: usize, k: usize, out: &
     cov_rows(readings, means, n, k, &mut cov);
     let mut c = [0.0; 132];
     contrast_rows(k, &mut c);
-    eigen::orthonormalize(&mut c, k - 1, k);
-    eigen::matrix_multiply_csc(&c, &cov, k - 1, k, out)
+    orthonormal::orthonormalize(&mut c, k - 1, k);
+    product::matrix_multiply_csc(&c, &cov, k - 1, k, out)
 }
 
 // The covariance of the conditions, seen through orthonormal differences of neighbours: C S C', to the first places of out.

@@ -1,4 +1,4 @@
-pub mod Sizes
+pub mod Squares
 pub mod Steps
 pub mod Calls
 pub mod Flat

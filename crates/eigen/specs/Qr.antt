@@ -7,7 +7,7 @@ use lib.Ieee.{Float, lt}
 use Rattle.base.specs.Loop.{loop}
 use Rattle.float.specs.Words.{_⊖_, _⊗_, _⊘_, plusZero, minusZero, tinier}
 use Rattle.root.specs.Root.{sqrtOf}
-use Rattle.eigen.specs.Places.{at, mostRows, refuses, dot, wiped}
+use Rattle.flat.specs.Places.{at, mostRows, refuses, dot}
 
 -- room for a column
 unfoldable pub blankColumn : List Float
@@ -70,6 +70,14 @@ qrColumn n a j s = normalize n j (remains n a (s .0) j (s .1) .0) (s .0, remains
 -- all columns
 unfoldable pub qrColumns : ℕ → List Float → List Float × List Float → List Float × List Float
 qrColumns n a s = loop 0 n (qrColumn n a) s
+
+-- place j becomes +0.0
+abbrev pub wipeAt : ℕ → List Float → List Float
+wipeAt j m = set m j plusZero
+
+-- the first k places hold +0.0
+unfoldable pub wiped : ℕ → List Float → List Float
+wiped k m = loop 0 k wipeAt m
 
 -- from +0.0 in all places
 unfoldable pub qrOf : ℕ → List Float → List Float × List Float → List Float × List Float

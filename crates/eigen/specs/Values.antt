@@ -6,8 +6,8 @@ use lib.ListN.{length, set, replicate}
 use lib.Ieee.{Float}
 use Rattle.base.specs.Loop.{loop}
 use Rattle.float.specs.Words.{plusZero}
-use Rattle.eigen.specs.Places.{at, mostRows, refuses}
-use Rattle.eigen.specs.Product.{times}
+use Rattle.flat.specs.Places.{at, mostRows, refuses}
+use Rattle.product.specs.Product.{times}
 use Rattle.eigen.specs.Qr.{qrColumns}
 
 -- room for 11 rows of 11 places, with +0.0 in all

@@ -2,9 +2,17 @@
 ghost use mathlib.Core.Path.{_≡_};
 ghost use Prim.Native.Nat.{_*_, _≤_, _<_};
 ghost use lib.ListN.{length};
-ghost use Rattle.eigen.specs.Qr.{columnOf, lessColumn, project, projections, putColumn, normalize, qrColumn, qrColumns};
-use super::places::dot;
-use super::places::row_dot;
+ghost use Rattle.eigen.specs.Qr.{wiped, columnOf, lessColumn, project, projections, putColumn, normalize, qrColumn, qrColumns};
+
+// The first k places become 0.
+pub fn wipe(m: &mut [f64], k: usize)
+    requires { ⌜ k ≤ length (now m) ⌝ }
+    ensures { λ _. ⌜ now (m .exit) ≡ wiped k (now (m .entry)) ⌝ }
+{
+    for j in 0..k {
+        m[j] = 0.0;
+    }
+}
 
 // Column j of a, to the first n places of v.
 pub fn take_column(a: &[f64], n: usize, j: usize, v: &mut [f64])
@@ -28,17 +36,17 @@ pub fn less_column(q: &[f64], n: usize, i: usize, f: f64, v: &mut [f64])
 
 // The projection onto column i of q goes to r[i][j] and is taken from v. It is worked out from column j of a, not from v.
 pub fn project(a: &[f64], q: &[f64], n: usize, j: usize, i: usize, v: &mut [f64], r: &mut [f64])
-    requires { ⌜ (i < n) × ((j < n) × ((n * n ≤ length (now a)) × ((n * n ≤ length (now q)) × ((n ≤ length (now v)) × (n * n ≤ length (now r)))))) ⌝ }
+    requires { ⌜ (i < n) × ((j < n) × ((n ≤ 11) × ((n * n ≤ length (now a)) × ((n * n ≤ length (now q)) × ((n ≤ length (now v)) × (n * n ≤ length (now r))))))) ⌝ }
     ensures { λ _. ⌜ (now (v .exit), now (r .exit)) ≡ project n (now (a .entry)) (now (q .entry)) j i (now (v .entry), now (r .entry)) ⌝ }
 {
-    let f = dot(q, i, n, a, j, n, n, -0.0);
+    let f = flat::dot(q, i, n, a, j, n, n, -0.0);
     r[i * n + j] = f;
     less_column(q, n, i, f, v);
 }
 
 // The projections onto all columns before column j.
 pub fn projections(a: &[f64], q: &[f64], n: usize, j: usize, v: &mut [f64], r: &mut [f64])
-    requires { ⌜ (j < n) × ((n * n ≤ length (now a)) × ((n * n ≤ length (now q)) × ((n ≤ length (now v)) × (n * n ≤ length (now r))))) ⌝ }
+    requires { ⌜ (j < n) × ((n ≤ 11) × ((n * n ≤ length (now a)) × ((n * n ≤ length (now q)) × ((n ≤ length (now v)) × (n * n ≤ length (now r)))))) ⌝ }
     ensures { λ _. ⌜ (now (v .exit), now (r .exit)) ≡ projections n (now (a .entry)) (now (q .entry)) j (now (v .entry), now (r .entry)) ⌝ }
 {
     for i in 0..j {
@@ -58,10 +66,10 @@ pub fn put_column(v: &[f64], n: usize, j: usize, d: f64, q: &mut [f64])
 
 // The norm of v goes to r[j][j], and unless it is too small or a NaN v over it to column j of q.
 pub fn normalize(v: &[f64], n: usize, j: usize, q: &mut [f64], r: &mut [f64])
-    requires { ⌜ (j < n) × ((n ≤ length (now v)) × ((n * n ≤ length (now q)) × (n * n ≤ length (now r)))) ⌝ }
+    requires { ⌜ (j < n) × ((n ≤ 11) × ((n ≤ length (now v)) × ((n * n ≤ length (now q)) × (n * n ≤ length (now r))))) ⌝ }
     ensures { λ _. ⌜ (now (q .exit), now (r .exit)) ≡ normalize n j (now (v .entry)) (now (q .entry), now (r .entry)) ⌝ }
 {
-    let norm = root::sqrt(row_dot(v, 0, 0, n));
+    let norm = root::sqrt(flat::dot(v, 0, 1, v, 0, 1, n, -0.0));
     r[j * n + j] = norm;
     if norm > 1e-15 {
         put_column(v, n, j, norm, q);

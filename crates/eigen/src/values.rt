@@ -3,7 +3,6 @@ ghost use mathlib.Core.Path.{_≡_};
 ghost use Prim.Native.Nat.{_*_, _≤_, _<_};
 ghost use lib.ListN.{length};
 ghost use Rattle.eigen.specs.Values.{round, rounds, diagonal};
-use super::product::product;
 use super::qr::qr_columns;
 
 const ROUNDS: usize = 100;
@@ -16,7 +15,7 @@ pub fn round(m: &mut [f64], n: usize)
     let mut q = [0.0; 121];
     let mut r = [0.0; 121];
     qr_columns(m, n, &mut q, &mut r);
-    product(&r, &q, 1, n, n, n, n, m);
+    product::product(&r, &q, 1, n, n, n, n, m);
 }
 
 // A hundred rounds.

@@ -41,7 +41,7 @@ pub fn orthonormalize(out: &mut Out, at: usize, option: u32, readings: &[f64]) -
     }
     let mut c = [0.0; 132];
     lay_row(&mut c, 0, count, readings, 0);
-    eigen::orthonormalize(&mut c, p, k);
+    orthonormal::orthonormalize(&mut c, p, k);
     lines::list(out, at, b"orthonormalize@\n", [0; 3], &c[..count])
 }
 

@@ -6,7 +6,7 @@ use lib.Ieee.{Float}
 use lib.ListN.{length}
 use Rattle.base.specs.Refusals.{guarded}
 use Rattle.subjects.specs.Checks.{conditions, repeatedRefusal}
-use Rattle.subjects.specs.Table.{tableOf}
+use Rattle.grid.specs.Table.{tableOf}
 use Rattle.repeated.specs.declared.RmAnovaResult.{RmAnovaResult}
 use Rattle.repeated.specs.Results.{answerOf, refusedResult}
 

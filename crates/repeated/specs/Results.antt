@@ -7,8 +7,8 @@ use lib.Ieee.{Float}
 use Rattle.base.specs.declared.Refusal.{Refusal}
 use Rattle.base.specs.Refusals.{none}
 use Rattle.float.specs.Words.{_⊖_, _⊗_, _⊘_, count, one, plusZero}
-use Rattle.subjects.specs.declared.RmTable.{RmTable}
-use Rattle.subjects.specs.Table.{noSubjects, noConditions}
+use Rattle.grid.specs.declared.RmTable.{RmTable}
+use Rattle.grid.specs.Table.{noSubjects, noConditions}
 use Rattle.tables.specs.Rows.{effectRow, plainRow, noRow}
 use Rattle.results.specs.declared.Corrections.{Corrections}
 use Rattle.results.specs.Corrections.{noCorrections}

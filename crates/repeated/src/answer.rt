@@ -2,7 +2,7 @@
 use crate::RmAnovaResult;
 use base::Refusal;
 use results::Corrections;
-use subjects::RmTable;
+use grid::RmTable;
 ghost use mathlib.Core.Path.{_≡_};
 ghost use Prim.Native.Nat.{_≤_};
 ghost use Rattle.repeated.specs.Results.{asked, correctionsOf, answerOf};

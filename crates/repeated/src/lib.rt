@@ -68,6 +68,6 @@ pub fn repeated_measures_anova(
     }
     let n = sizes.len();
     let k = sizes[0] as usize;
-    let t = subjects::rm_table(readings, n, k);
+    let t = grid::rm_table(readings, n, k);
     answer::answer(readings, n, k, t, compute_sphericity)
 }

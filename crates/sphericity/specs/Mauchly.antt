@@ -7,7 +7,7 @@ use Rattle.base.specs.Loop.{loop}
 use Rattle.float.specs.Words.{_⊕_, _⊖_, _⊘_, count, plusZero, minusZero, one, two, tinier}
 use Rattle.float.specs.Singles.{absOf, clampOf, powerOf}
 use Rattle.linear.specs.Determinant.{matrixDeterminant}
-use Rattle.eigen.specs.Places.{at}
+use Rattle.flat.specs.Places.{at}
 
 -- `(0..p).map(|i| m[i][i]).sum()`
 abbrev pub traceAt : ℕ → List Float → ℕ → Float → Float

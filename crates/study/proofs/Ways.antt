@@ -11,11 +11,13 @@ use Rattle.base.specs.declared.Refusal.{Refusal}
 use Rattle.base.specs.Lists.{over}
 use Rattle.base.specs.Refusals.{_orElse_}
 use Rattle.base.proofs.Order.{first-wins, second-asked, passed-answer, refused-answer}
-use Rattle.cells.specs.declared.TwoWayData.{TwoWayData}
-use Rattle.cells.specs.Cells.{cellCounts, cellOrder}
-use Rattle.cells.specs.Checks.{levels, twoWayRefusal}
-use Rattle.cells.specs.Organized.{checkedData, organizeTwoWayData, leftAlone}
-use Rattle.cells.proofs.Designs.{Held, held, design-which, design-passes, design-there}
+use Rattle.design.specs.declared.TwoWayData.{TwoWayData}
+use Rattle.design.specs.Cells.{cellCounts}
+use Rattle.design.specs.Checks.{levels, twoWayRefusal}
+use Rattle.design.specs.Data.{checkedData}
+use Rattle.design.proofs.Answers.{refusal-told, passed-told, data-told}
+use Rattle.cells.specs.Organized.{cellOrder, organizeTwoWayData, leftAlone}
+use Rattle.cells.proofs.Designs.{Held, held}
 use Rattle.lent.specs.Wiping.{wiped, zeros}
 use Rattle.twoway.specs.declared.TwoWayAnovaResult.{TwoWayAnovaResult}
 use Rattle.twoway.specs.Results.{answerOf}
@@ -29,7 +31,7 @@ module _ (xs : List Float) (us vs : List ℕ) (scratch : List Float) (d : TwoWay
   pub not-passed : (r : GaugeStudy) → (d .refusal .number ≡ 0 → ⊥) → r ≡ refusedStudy (d .refusal) → _≡_ {A = List Float × GaugeStudy} (scratch, r) (gaugeStudy xs us vs scratch)
   unfolding gaugeStudy studyRefusal
   not-passed r n q =
-      let w = design-which xs us vs (length scratch) d e n in
+      let w = refusal-told xs us vs (length scratch) d e in
       let m : twoWayRefusal xs us vs (length scratch) .number ≡ 0 → ⊥ = λ z. n (ap (λ (x : Refusal). x .number) w ∙ z) in
       rw (q, w, first-wins (twoWayRefusal xs us vs (length scratch)) (balanceRefusal (cellCounts (levels us) (levels vs) xs us vs)) m) (sym (refused-answer (twoWayRefusal xs us vs (length scratch)) (alone scratch) _ m))
 
@@ -39,7 +41,7 @@ module _ (xs : List Float) (us vs : List ℕ) (scratch : List Float) (d : TwoWay
     unfolding organizeTwoWayData
     design =
         held xs us vs scratch _ d
-        (rw (design-there xs us vs (length scratch) d e z) (sym (passed-answer (twoWayRefusal xs us vs (length scratch)) (leftAlone scratch) _ (design-passes xs us vs (length scratch) d e z)))) z
+        (rw (data-told xs us vs (length scratch) d e z) (sym (passed-answer (twoWayRefusal xs us vs (length scratch)) (leftAlone scratch) _ (passed-told xs us vs (length scratch) d e z)))) z
 
     abbrev a : ℕ
     a = d .«levels_a»
@@ -59,7 +61,7 @@ module _ (xs : List Float) (us vs : List ℕ) (scratch : List Float) (d : TwoWay
 
     both : (studyRefusal xs us vs (length scratch)) ≡ balanceRefusal (take (a * b) (d .«cell_n»))
     unfolding studyRefusal
-    both = rw are-counts (second-asked (twoWayRefusal xs us vs (length scratch)) _ (design-passes xs us vs (length scratch) d e z))
+    both = rw are-counts (second-asked (twoWayRefusal xs us vs (length scratch)) _ (passed-told xs us vs (length scratch) d e z))
 
     -- refused for want of balance
     pub not-balanced : (u : Refusal) (r : GaugeStudy) → u ≡ balanceRefusal (take (a * b) (d .«cell_n»)) → (u .number ≡ 0 → ⊥) → r ≡ refusedStudy u → _≡_ {A = List Float × GaugeStudy} (scratch, r) (gaugeStudy xs us vs scratch)
@@ -71,7 +73,7 @@ module _ (xs : List Float) (us vs : List ℕ) (scratch : List Float) (d : TwoWay
     module _ (after : List Float) (t : TwoWayAnovaResult) (q : _≡_ {A = List Float × TwoWayAnovaResult} (after, t) (twoWayAnova xs us vs scratch)) where
       table : _≡_ {A = List Float × TwoWayAnovaResult} (after, t) (wiped scratch, twoWayOf xs us vs (levels us) (levels vs))
       unfolding twoWayAnova
-      table = q ∙ passed-answer (twoWayRefusal xs us vs (length scratch)) (untouched scratch) _ (design-passes xs us vs (length scratch) d e z)
+      table = q ∙ passed-answer (twoWayRefusal xs us vs (length scratch)) (untouched scratch) _ (passed-told xs us vs (length scratch) d e z)
 
       is-table : t ≡ twoWayOf xs us vs (levels us) (levels vs)
       is-table = ap (λ (x : List Float × TwoWayAnovaResult). x .1) table

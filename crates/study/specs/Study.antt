@@ -7,8 +7,8 @@ use lib.ListN.{length, getD}
 use Rattle.base.specs.declared.Refusal.{Refusal}
 use Rattle.base.specs.Refusals.{refuse, none, unless, _orElse_, guarded}
 use Rattle.float.specs.Words.{_⊕_, _⊖_, _⊘_, count, plusZero}
-use Rattle.cells.specs.Cells.{cellCounts}
-use Rattle.cells.specs.Checks.{levels, twoWayRefusal}
+use Rattle.design.specs.Cells.{cellCounts}
+use Rattle.design.specs.Checks.{levels, twoWayRefusal}
 use Rattle.balanced.specs.Squares.{otherCount}
 use Rattle.lent.specs.Wiping.{wiped}
 use Rattle.twoway.specs.declared.TwoWayAnovaResult.{TwoWayAnovaResult}

@@ -85,7 +85,7 @@ pub fn gauge_study(
 ) -> GaugeStudy
     ensures { λ r. ⌜ (now (scratch .exit), r) ≡ gaugeStudy (now (values .entry)) (now («factor_a» .entry)) (now («factor_b» .entry)) (now (scratch .entry)) ⌝ }
 {
-    let d = cells::check_two_way_data(values, factor_a, factor_b, scratch.len());
+    let d = design::check_two_way_data(values, factor_a, factor_b, scratch.len());
     if d.refusal.number != 0 {
         return refused(d.refusal);
     }

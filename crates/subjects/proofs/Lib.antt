@@ -1,4 +1,2 @@
 pub mod Walk
 pub mod Doors
-pub mod Rows
-pub mod Columns

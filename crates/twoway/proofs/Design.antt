@@ -10,10 +10,10 @@ use lib.Seq.{take-take, drop-drop, length-take-le}
 use Rattle.base.specs.declared.Refusal.{Refusal}
 use Rattle.base.specs.Lists.{total, cut}
 use Rattle.base.proofs.Order.{passed-answer, refused-answer}
-use Rattle.cells.specs.declared.TwoWayData.{TwoWayData}
-use Rattle.cells.specs.Cells.{cells, cellCounts, cellOrder}
-use Rattle.cells.specs.Checks.{twoWayRefusal}
-use Rattle.cells.specs.Organized.{organizeTwoWayData}
+use Rattle.design.specs.declared.TwoWayData.{TwoWayData}
+use Rattle.design.specs.Cells.{cells}
+use Rattle.design.specs.Checks.{twoWayRefusal}
+use Rattle.cells.specs.Organized.{cellOrder, organizeTwoWayData}
 use Rattle.cells.proofs.Designs.{Held, cut-cells, which, left-alone}
 use Rattle.margins.specs.declared.CellTable.{CellTable}
 use Rattle.balanced.specs.declared.Effects.{Effects}

@@ -8,8 +8,8 @@ use lib.Ieee.{Float}
 use lib.ListN.{length, getD, take}
 use Rattle.base.specs.declared.Refusal.{Refusal}
 use Rattle.base.specs.Refusals.{guarded}
-use Rattle.cells.specs.Cells.{cells, cellCounts}
-use Rattle.cells.specs.Checks.{levels, twoWayRefusal}
+use Rattle.design.specs.Cells.{cells, cellCounts}
+use Rattle.design.specs.Checks.{levels, twoWayRefusal}
 use Rattle.margins.specs.Table.{cellMeans, tableOf}
 use Rattle.balanced.specs.declared.Effects.{Effects}
 use Rattle.balanced.specs.Squares.{otherCount, balancedSs}

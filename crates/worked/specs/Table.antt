@@ -19,8 +19,8 @@ use Rattle.oneway.specs.Fisher.{fisherAnova}
 use Rattle.oneway.specs.Welch.{welchAnova}
 use Rattle.oneway.specs.Anova.{anova, oneWayAnova}
 use Rattle.base.specs.Loop.{loop, turns}
-use Rattle.cells.specs.Cells.{cell, numbers, cells}
-use Rattle.cells.specs.Checks.{largest, shapeRefusal, levelsRefusal, emptyRefusal, cellsRefusal, twoWayRefusal}
+use Rattle.design.specs.Cells.{cell, numbers, cells}
+use Rattle.design.specs.Checks.{largest, shapeRefusal, levelsRefusal, emptyRefusal, cellsRefusal, twoWayRefusal}
 use Rattle.margins.specs.Table.{tallyLine, noLevels, noCells, margins, cellMeans, ssError}
 use Rattle.balanced.specs.Squares.{unlike, otherCount, meanLine, meanMargins, abRow, ssAb, balancedSs}
 use Rattle.twoway.specs.declared.TwoWayAnovaResult.{TwoWayAnovaResult}
@@ -33,10 +33,10 @@ use Rattle.float.specs.Singles.{absOf, isFinite, leastOf, greatestOf, clampOf, 
 use Rattle.base.specs.Lists.{part}
 use Rattle.linear.specs.Determinant.{twoByTwo, detOf, matrixDeterminant}
 use Rattle.subjects.specs.Checks.{designRefusal, subjectFault, subjectsRefusal, repeatedRefusal}
-use Rattle.subjects.specs.Table.{noSubjects, noConditions, subjectMeans, conditionSum, conditionMeans, ssTotal, ssSubjects, ssConditions}
-use Rattle.eigen.specs.Places.{refuses, dot}
-use Rattle.eigen.specs.Orthonormal.{lessRow, overRow, projectRow, projectRows, normalizeRow, orthonormalRow, orthonormalRows, orthonormalize}
-use Rattle.eigen.specs.Product.{productRow, product, blank, csc, matrixMultiplyCsc}
+use Rattle.grid.specs.Table.{noSubjects, noConditions, subjectMeans, conditionSum, conditionMeans, ssTotal, ssSubjects, ssConditions}
+use Rattle.flat.specs.Places.{refuses, dot}
+use Rattle.orthonormal.specs.Orthonormal.{lessRow, overRow, projectRow, projectRows, normalizeRow, orthonormalRow, orthonormalRows, orthonormalize}
+use Rattle.product.specs.Product.{productRow, product, blank, csc, matrixMultiplyCsc}
 use Rattle.eigen.specs.Qr.{blankColumn, columnOf, lessColumn, project, projections, putColumn, newColumn, normalize, remains, qrColumn, qrColumns}
 use Rattle.eigen.specs.Values.{zeros, qrHere, round, rounds, diagonal, computeEigenvalues}
 use Rattle.contrasts.specs.Covariance.{covSum, covariance, covRow, covRows, noCovariances, covMatrix}

@@ -5,7 +5,7 @@ use borrow.Author.Needs.{needs}
 use Rattle.contrasts.specs.Covariance.{noCovariances}
 use Rattle.contrasts.proofs.Calls.{seen-through}
 use Rattle.base.proofs.Bounds.{product-le}
-use Rattle.eigen.specs.Product.{blank}
+use Rattle.product.specs.Product.{blank}
 use Rattle.contrasts.proofs.through_contrasts.Statement.{statement}
 use Rattle.contrasts.proofs.through_contrasts.Tie as tie
 

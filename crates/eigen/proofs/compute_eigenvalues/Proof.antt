@@ -5,7 +5,7 @@ use native.Mathlib.Omega.{arith}
 use borrow.Author.Needs.{needs}
 use lib.ListN.{length}
 use Rattle.eigen.proofs.Calls.{eigen-first, eigen-second, eigen-taken}
-use Rattle.eigen.proofs.Sizes.{Sized, sized}
+use Rattle.flat.proofs.Sizes.{Sized, sized}
 use Rattle.eigen.proofs.compute_eigenvalues.Statement.{statement}
 use Rattle.eigen.proofs.compute_eigenvalues.Tie as tie
 

@@ -6,7 +6,7 @@ use borrow.Author.Needs.{needs}
 use lib.ListN.{length}
 use Rattle.base.proofs.Bounds.{product-le}
 use Rattle.eigen.proofs.Calls.{qr-first, qr-second, qr-third, qr-taken}
-use Rattle.eigen.proofs.Sizes.{Sized, sized}
+use Rattle.flat.proofs.Sizes.{Sized, sized}
 use Rattle.eigen.proofs.qr_decomposition.Statement.{statement}
 use Rattle.eigen.proofs.qr_decomposition.Tie as tie
 

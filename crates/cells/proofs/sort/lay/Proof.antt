@@ -1,11 +1,10 @@
 -- `cells::sort::lay` meets its contract.
-use Prim.Native.Nat.{_≤_, _<_, _-_}
+use Prim.Native.Nat.{ℕ, _+_, _*_, _≤_, _<_, _-_}
 use native.Mathlib.Omega.{arith}
 use lib.ListN.{length, getD}
-use Rattle.cells.proofs.Laying.{tallied-sums, tallied-start, tallied-here, tallied-place, tallied-room, tallied-one, tallied-all}
+use Rattle.design.specs.Keys.{keys}
+use Rattle.cells.proofs.Laying.{tallied-sums, tallied-start, tallied-here, tallied-codes, tallied-place, tallied-room, tallied-one, tallied-all}
 use Rattle.cells.proofs.Sorts.{Placed}
-use Rattle.cells.proofs.Keys.{coded-here}
-use Rattle.cells.specs.Sorting.{keys}
 use Rattle.cells.proofs.sort.lay.Statement.{statement}
 use Rattle.cells.proofs.sort.lay.Tie as tie
 
@@ -15,22 +14,31 @@ Inv-loop values factor-a factor-b levels-b counts scratch₀ next₀ i₀ scratc
 abbrev μ-loop : tie.MeasureT-loop
 μ-loop values factor-a factor-b levels-b counts scratch₀ next₀ i₀ scratch next i = length values - i
 
--- the reading has its two codes
-known : (c : tie.In-loop Inv-loop μ-loop) → (let s = c .before .before .before .before .before .before .before in (c .before .loop .i < length (s .args .factor-a .now)) × (c .before .loop .i < length (s .args .factor-b .now)))
-known c = tallied-here _ _ _ _ _ _ (c .before .before .before .before .before .before .before .pre) (c .before .loop .i) (c .loop-test .taken)
+abbrev start : tie.In-loop Inv-loop μ-loop → tie.Start Inv-loop μ-loop
+start c = c .before .before .before .before .before .before .before
 
-abbrev at : tie.After-key Inv-loop μ-loop → tie.At-loop Inv-loop μ-loop
-at c = c .before .before .before .before
+-- the codes of the reading, and the number of its cell
+abbrev code-a : tie.In-loop Inv-loop μ-loop → ℕ
+code-a c = getD (start c .args .factor-a .now) (c .before .loop .i) 0
 
-abbrev start : tie.After-key Inv-loop μ-loop → tie.Start Inv-loop μ-loop
-start c = at c .before .before .before .before .before .before
+abbrev code-b : tie.In-loop Inv-loop μ-loop → ℕ
+code-b c = getD (start c .args .factor-b .now) (c .before .loop .i) 0
 
--- its key is one of the 36, and its place in the scratch is there
-place : (c : tie.After-key Inv-loop μ-loop) → c .key .result < 36
-place c = tallied-place _ _ _ _ _ _ (start c .pre) (at c .loop .i) (c .before .before .before .loop-test .taken) (c .key .result) (c .key .ensures)
+abbrev key : tie.In-loop Inv-loop μ-loop → ℕ
+key c = code-a c * start c .args .levels-b + code-b c
 
-room : (c : tie.After-key Inv-loop μ-loop) → getD (at c .loop .next) (c .key .result) 0 < length (at c .loop .scratch)
-room c = tallied-room _ _ _ _ _ _ (start c .pre) (at c .loop .scratch) (at c .loop .next) (at c .loop .i) (at c .loop .inv .1) (c .before .before .before .loop-test .taken) (c .key .result) (c .key .ensures)
+-- the codes are there and small, the cell is one of the 36, and its next place in the scratch is there
+known : (c : tie.In-loop Inv-loop μ-loop) → (c .before .loop .i < length (start c .args .factor-a .now)) × (c .before .loop .i < length (start c .args .factor-b .now))
+known c = tallied-here _ _ _ _ _ _ (start c .pre) (c .before .loop .i) (c .loop-test .taken)
+
+codes : (c : tie.In-loop Inv-loop μ-loop) → (code-a c < 6) × (code-b c < 6) × (start c .args .levels-b ≤ 6)
+codes c = tallied-codes _ _ _ _ _ _ (start c .pre) (c .before .loop .i) (c .loop-test .taken)
+
+place : (c : tie.In-loop Inv-loop μ-loop) → key c < 36
+place c = tallied-place _ _ _ _ _ _ (start c .pre) (c .before .loop .i) (c .loop-test .taken)
+
+room : (c : tie.In-loop Inv-loop μ-loop) → getD (c .before .loop .next) (key c) 0 < length (c .before .loop .scratch)
+room c = tallied-room _ _ _ _ _ _ (start c .pre) (c .before .loop .scratch) (c .before .loop .next) (c .before .loop .i) (c .before .loop .inv .1) (c .loop-test .taken)
 
 starts-of-requires : tie.Need-starts-of-requires Inv-loop μ-loop
 starts-of-requires c κs = let s = c .before .before .before .before in tallied-sums _ _ _ _ _ _ (s .pre)
@@ -38,28 +46,35 @@ starts-of-requires c κs = let s = c .before .before .before .before in tallied-
 loop-holds : tie.Need-loop-holds Inv-loop μ-loop
 loop-holds c = let s = c .before .before .before .before .before in (omega arith, rw (c .starts-of .ensures) (tallied-start _ _ _ _ _ _ (s .pre)))
 
-mul-key : tie.Need-mul-key Inv-loop μ-loop
-mul-key c = omega (arith, (known c) .0)
+mul-c : tie.Need-mul-c Inv-loop μ-loop
+mul-c c = omega (arith, known c)
 
-shared-slice-read-key : tie.Need-shared-slice-read-key Inv-loop μ-loop
-shared-slice-read-key c = omega (arith, (known (c .before)) .0)
+shared-slice-read-c : tie.Need-shared-slice-read-c Inv-loop μ-loop
+shared-slice-read-c c = omega (arith, known (c .before))
 
-mul-key-2 : tie.Need-mul-key-2 Inv-loop μ-loop
-mul-key-2 c = omega (arith, (known (c .before)) .0)
+cast-c : tie.Need-cast-c Inv-loop μ-loop
+cast-c c = omega (arith, codes (c .before))
 
-shared-slice-read-key-2 : tie.Need-shared-slice-read-key-2 Inv-loop μ-loop
-shared-slice-read-key-2 c = omega (arith, (known (c .before .before)) .1)
+mul-c-2 : tie.Need-mul-c-2 Inv-loop μ-loop
+mul-c-2 c = omega (arith, place (c .before))
 
-key-requires : tie.Need-key-requires Inv-loop μ-loop
-key-requires c κs =
-    let i = c .before .before in
-    coded-here _ _ _ (i .before .before .before .before .before .before .before .pre .coded) (i .before .loop .i) (known i .0)
+mul-c-3 : tie.Need-mul-c-3 Inv-loop μ-loop
+mul-c-3 c = omega (arith, known (c .before))
+
+shared-slice-read-c-2 : tie.Need-shared-slice-read-c-2 Inv-loop μ-loop
+shared-slice-read-c-2 c = omega (arith, known (c .before .before))
+
+cast-c-2 : tie.Need-cast-c-2 Inv-loop μ-loop
+cast-c-2 c = omega (arith, codes (c .before .before))
+
+add-c : tie.Need-add-c Inv-loop μ-loop
+add-c c = omega (arith, place (c .before .before), codes (c .before .before))
 
 mul-at : tie.Need-mul-at Inv-loop μ-loop
-mul-at c = omega (arith, place c)
+mul-at c = omega (arith, place (c .before .before), codes (c .before .before))
 
 array-read-at : tie.Need-array-read-at Inv-loop μ-loop
-array-read-at c = place c
+array-read-at c = place (c .before .before)
 
 mul-scratch : tie.Need-mul-scratch Inv-loop μ-loop
 mul-scratch c = omega arith
@@ -68,19 +83,19 @@ shared-slice-read-scratch : tie.Need-shared-slice-read-scratch Inv-loop μ-loop
 shared-slice-read-scratch c = omega arith
 
 mul-scratch-2 : tie.Need-mul-scratch-2 Inv-loop μ-loop
-mul-scratch-2 c = omega (arith, room (c .before))
+mul-scratch-2 c = omega (arith, room (c .before .before .before))
 
 slice-write-scratch : tie.Need-slice-write-scratch Inv-loop μ-loop
-slice-write-scratch c = room (c .before)
+slice-write-scratch c = room (c .before .before .before)
 
 add-next : tie.Need-add-next Inv-loop μ-loop
-add-next c = omega (arith, room (c .before))
+add-next c = omega (arith, room (c .before .before .before))
 
 mul-next : tie.Need-mul-next Inv-loop μ-loop
-mul-next c = omega (arith, place (c .before))
+mul-next c = omega (arith, place (c .before .before .before))
 
 array-write-next : tie.Need-array-write-next Inv-loop μ-loop
-array-write-next c = place (c .before)
+array-write-next c = place (c .before .before .before)
 
 add-i : tie.Need-add-i Inv-loop μ-loop
 add-i c = omega arith
@@ -89,7 +104,10 @@ loop-less : tie.Need-loop-less Inv-loop μ-loop
 loop-less c = omega arith
 
 loop-again : tie.Need-loop-again Inv-loop μ-loop
-loop-again c = let p = c .before in (omega arith, tallied-one _ _ _ _ _ _ (start p .pre) (at p .loop .scratch) (at p .loop .next) (at p .loop .i) (at p .loop .inv .1) (p .before .before .before .loop-test .taken) (p .key .result) (p .key .ensures))
+loop-again c =
+    let p = c .before .before .before in
+    let l = p .before .loop in
+    (omega arith, tallied-one _ _ _ _ _ _ (start p .pre) (l .scratch) (l .next) (l .i) (l .inv .1) (p .loop-test .taken))
 
 same-length : tie.Need-same-length Inv-loop μ-loop
 same-length c = c .before .loop .inv .1 .places
@@ -107,11 +125,14 @@ lay-spec =
     μ-loop
     starts-of-requires
     loop-holds
-    mul-key
-    shared-slice-read-key
-    mul-key-2
-    shared-slice-read-key-2
-    key-requires
+    mul-c
+    shared-slice-read-c
+    cast-c
+    mul-c-2
+    mul-c-3
+    shared-slice-read-c-2
+    cast-c-2
+    add-c
     mul-at
     array-read-at
     mul-scratch

@@ -2,6 +2,7 @@
 use Prim.Native.Nat.{_≤_, _-_, _+_, _*_}
 use native.Mathlib.Omega.{arith}
 use borrow.Author.Needs.{needs}
+use Rattle.flat.proofs.Room.{dot-room}
 use Rattle.eigen.proofs.Steps.{column-projected}
 use Rattle.base.proofs.Bounds.{row-end}
 use Rattle.eigen.proofs.qr.project.Statement.{statement}
@@ -36,7 +37,7 @@ same-length-2 : tie.Need-same-length-2
 same-length-2 c = search needs
 
 returns : tie.Need-returns
-returns c = column-projected _ _ _ _ _ _ _ (c .before .before .before .before .dot .ensures) (c .before .before .less-column .ensures)
+returns c = column-projected _ _ _ _ _ _ _ (let k = row (c .before .before .before .before .before .before .before .before .before) in dot-room _ _ _ _ _ _ _ _ (omega arith, (omega arith, (omega (arith, k), omega arith))) (omega arith, (omega arith, (omega (arith, k), omega arith))) (c .before .before .before .before .dot .ensures)) (c .before .before .less-column .ensures)
 
 pub project-spec : {M : Type 1} → statement M
 project-spec =

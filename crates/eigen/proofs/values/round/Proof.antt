@@ -3,7 +3,9 @@ use Prim.Native.Nat.{_-_}
 use native.Mathlib.Omega.{arith}
 use borrow.Author.Needs.{needs}
 use Rattle.eigen.specs.Values.{zeros}
+use Rattle.eigen.proofs.Squares.{square-fits}
 use Rattle.eigen.proofs.Steps.{round-done}
+use Rattle.product.proofs.Fits.{product-room}
 use Rattle.base.proofs.Bounds.{product-le}
 use Rattle.eigen.proofs.values.round.Statement.{statement}
 use Rattle.eigen.proofs.values.round.Tie as tie
@@ -24,14 +26,17 @@ slice-aggregate-product-2 : tie.Need-slice-aggregate-product-2
 slice-aggregate-product-2 c = search needs
 
 product-requires : tie.Need-product-requires
-product-requires c κs = let h = product-le 11 11 (c .before .before .before .before .before .before .before .before .before .before .pre .1 .0) (c .before .before .before .before .before .before .before .before .before .before .pre .1 .0) in (omega arith, (omega (arith, h), (omega (arith, h), omega arith)))
+product-requires c κs = search needs
 
 same-length : tie.Need-same-length
 same-length c = search needs
 
 returns : tie.Need-returns
 unfolding zeros
-returns c = round-done _ _ (c .before .before .before .before .before .before .before .before .qr-columns .ensures) (c .before .before .product .ensures)
+returns c =
+    let p = c .before .before .before .before .before .before .before .before .before .before .before .before .before .pre in
+    let h = product-le 11 11 (p .1 .0) (p .1 .0) in
+    round-done _ _ (c .before .before .before .before .before .before .before .before .qr-columns .ensures) (product-room _ _ _ _ _ _ _ _ (square-fits _ _ _ _ (p .0) (p .1 .0) (omega (arith, h)) (omega (arith, h)) (omega arith)) (c .before .before .product .ensures))
 
 pub round-spec : {M : Type 1} → statement M
 round-spec =

@@ -1,0 +1,71 @@
+-- What a size that is not refused leaves known, and the ways to refuse one.
+use Prim.Native.Nat.{ℕ, _*_, _<_, _≤_}
+use mathlib.Core.Path.{_≡_, sym, _∙_}
+use mathlib.Core.Bool.{true, false}
+use native.Mathlib.Omega.{arith}
+use borrow.Author.Tests.{eq-eqb, ne-eqb, lt-ltb, le-ltb, eqb-false, ltb-false}
+use lib.Dec.{eqb, ltb}
+use Rattle.base.proofs.Faults.{neither}
+use Rattle.flat.specs.Places.{refuses}
+
+module _ (most p k len : ℕ) where
+  pub no-row : p ≡ 0 → true ≡ refuses most p k len
+  unfolding refuses
+  no-row h = rw (eq-eqb p 0 h)
+
+  module _ (a : p ≡ 0 → ⊥) where
+    pub many-rows : most < p → true ≡ refuses most p k len
+    unfolding refuses
+    many-rows h = rw (ne-eqb p 0 a, lt-ltb most p h)
+
+    module _ (b : p ≤ most) where
+      pub too-many-rows : 12 < p → true ≡ refuses most p k len
+      unfolding refuses
+      too-many-rows h = rw (ne-eqb p 0 a, le-ltb most p b, lt-ltb 12 p h)
+
+      module _ (f : p ≤ 12) where
+        pub no-place : k ≡ 0 → true ≡ refuses most p k len
+        unfolding refuses
+        no-place h = rw (ne-eqb p 0 a, le-ltb most p b, le-ltb 12 p f, eq-eqb k 0 h)
+
+        module _ (d : k ≡ 0 → ⊥) where
+          pub many-places : 12 < k → true ≡ refuses most p k len
+          unfolding refuses
+          many-places h = rw (ne-eqb p 0 a, le-ltb most p b, le-ltb 12 p f, ne-eqb k 0 d, lt-ltb 12 k h)
+
+          pub room-asked : k ≤ 12 → ltb len (p * k) ≡ refuses most p k len
+          unfolding refuses
+          room-asked h = rw (ne-eqb p 0 a, le-ltb most p b, le-ltb 12 p f, ne-eqb k 0 d, le-ltb 12 k h)
+
+-- what is known where the rows are taken
+pub record Sized (most p k len : ℕ) : Type 0 where
+  pub some-rows : 0 < p
+  pub few-rows : p ≤ most
+  pub some-places : 0 < k
+  pub few-places : k ≤ 12
+  pub held : p * k ≤ len
+
+pub sized : (most p k len : ℕ) → refuses most p k len ≡ false → Sized most p k len
+unfolding refuses
+sized most p k len e =
+    let one = neither (eqb p 0) _ e in
+    let two = neither (ltb most p) _ (one .1) in
+    let three = neither (ltb 12 p) _ (two .1) in
+    let four = neither (eqb k 0) _ (three .1) in
+    let five = neither (ltb 12 k) _ (four .1) in
+    record {
+      some-rows = above p (eqb-false p 0 (one .0));
+      few-rows = ltb-false most p (two .0);
+      some-places = above k (eqb-false k 0 (four .0));
+      few-places = ltb-false 12 k (five .0);
+      held = ltb-false len (p * k) (five .1);
+    }
+  where
+    above : (x : ℕ) → (x ≡ 0 → ⊥) → 0 < x
+    above x n = omega (arith, n)
+
+-- rows with all of that are taken, where no more than 12 are asked for
+pub not-refused : (most p k len : ℕ) → most ≤ 12 → Sized most p k len → refuses most p k len ≡ false
+not-refused most p k len m s =
+    sym (room-asked most p k len (λ z. omega (arith, s .some-rows, z)) (s .few-rows) (omega (arith, m, s .few-rows)) (λ z. omega (arith, s .some-places, z)) (s .few-places))
+    ∙ le-ltb len (p * k) (s .held)

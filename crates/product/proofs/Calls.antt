@@ -1,0 +1,29 @@
+-- The ends of the calls: b, d, f are what the tests of the sizes said; x, y, z the memory after each step. The last step makes NaNs canonical and leaves it as it was.
+use Prim.Native.Nat.{ℕ}
+use mathlib.Core.Path.{_≡_}
+use mathlib.Core.Bool.{Bool, true, false}
+use mathlib.Core.List.{List}
+use lib.ListN.{length}
+use lib.Ieee.{Float}
+use Rattle.base.specs.Limits.{mostConditions}
+use Rattle.flat.specs.Places.{mostRows, refuses}
+use Rattle.product.specs.Product.{times, timesTurned, blank, csc, matrixMultiplyCsc}
+
+module _ (p k : ℕ) (c s out : List Float) {b : Bool} (e : b ≡ refuses mostRows p k (length c)) where
+  pub csc-first : b ≡ true → (out, false) ≡ matrixMultiplyCsc p k c s out
+  unfolding matrixMultiplyCsc
+  csc-first h = rw (← e, h)
+
+  module _ (h : b ≡ false) {d : Bool} (e' : d ≡ refuses mostConditions k k (length s)) where
+    pub csc-second : d ≡ true → (out, false) ≡ matrixMultiplyCsc p k c s out
+    unfolding matrixMultiplyCsc
+    csc-second h' = rw (← e, h, ← e', h')
+
+    module _ (h' : d ≡ false) {f : Bool} (e'' : f ≡ refuses mostRows p p (length out)) where
+      pub csc-third : f ≡ true → (out, false) ≡ matrixMultiplyCsc p k c s out
+      unfolding matrixMultiplyCsc
+      csc-third h'' = rw (← e, h, ← e', h', ← e'', h'')
+
+      pub csc-taken : {x y z : List Float} → f ≡ false → x ≡ times p k k c s blank → y ≡ timesTurned p k p x c out → z ≡ y → (z, true) ≡ matrixMultiplyCsc p k c s out
+      unfolding matrixMultiplyCsc csc
+      csc-taken h'' u v w = rw (← e, h, ← e', h', ← e'', h'', w, v, u)

@@ -1,0 +1,3 @@
+pub mod Fits
+pub mod Steps
+pub mod Calls
