@@ -1,8 +1,8 @@
 // The answer of a repeated-measures analysis, once its table is known.
 use crate::RmAnovaResult;
 use base::Refusal;
-use results::Corrections;
 use grid::RmTable;
+use results::Corrections;
 ghost use mathlib.Core.Path.{_≡_};
 ghost use Prim.Native.Nat.{_≤_};
 ghost use Rattle.repeated.specs.Results.{asked, correctionsOf, answerOf};
