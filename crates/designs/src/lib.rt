@@ -7,8 +7,25 @@ ghost use Prim.Native.Nat.{_≤_};
 // What a stream can lend.
 const MOST_LENT: usize = 6500;
 
+// The kinds 5 and 7.
+pub fn answer(
+    out: &mut Out,
+    at: usize,
+    kind: u32,
+    option: u32,
+    a: &[u32],
+    b: &[u32],
+    readings: &[f64],
+) -> usize {
+    match kind {
+        5 => two_way(out, at, option, a, b, readings),
+        7 => study(out, at, option, a, b, readings),
+        _ => text::put(out, at, b"unknown kind\n"),
+    }
+}
+
 // The option says how much scratch is lent. Each of its places holds 1.5 before the call.
-pub fn two_way(
+fn two_way(
     out: &mut Out,
     at: usize,
     option: u32,
@@ -39,7 +56,7 @@ fn two_way_in(
     scratch_line(out, next, n, scratch)
 }
 
-pub fn study(
+fn study(
     out: &mut Out,
     at: usize,
     option: u32,
