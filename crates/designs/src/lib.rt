@@ -25,14 +25,7 @@ pub fn answer(
 }
 
 // The option says how much scratch is lent. Each of its places holds 1.5 before the call.
-fn two_way(
-    out: &mut Out,
-    at: usize,
-    option: u32,
-    a: &[u32],
-    b: &[u32],
-    readings: &[f64],
-) -> usize {
+fn two_way(out: &mut Out, at: usize, option: u32, a: &[u32], b: &[u32], readings: &[f64]) -> usize {
     if MOST_LENT < option as usize {
         return text::put(out, at, b"bad case\n");
     }
@@ -56,14 +49,7 @@ fn two_way_in(
     scratch_line(out, next, n, scratch)
 }
 
-fn study(
-    out: &mut Out,
-    at: usize,
-    option: u32,
-    a: &[u32],
-    b: &[u32],
-    readings: &[f64],
-) -> usize {
+fn study(out: &mut Out, at: usize, option: u32, a: &[u32], b: &[u32], readings: &[f64]) -> usize {
     if MOST_LENT < option as usize {
         return text::put(out, at, b"bad case\n");
     }
