@@ -10,21 +10,18 @@ use qr::wipe;
 use values::diagonal;
 use values::rounds;
 
-// Twelve conditions, and one contrast less.
-const MOST_ROWS: usize = 11;
-
 // Q and R of the n rows of n places, to the first places of q and of r.
 // Sizes that are not taken, or no room for one of the matrices: false, and nothing is changed.
 pub fn qr_decomposition(a: &[f64], n: usize, q: &mut [f64], r: &mut [f64]) -> bool
     ensures { λ x. ⌜ ((now (q .exit), now (r .exit)), x) ≡ qrDecomposition n (now (a .entry)) (now (q .entry), now (r .entry)) ⌝ }
 {
-    if flat::refuses(MOST_ROWS, n, n, a.len()) {
+    if flat::refuses(flat::MOST_ROWS, n, n, a.len()) {
         return false;
     }
-    if flat::refuses(MOST_ROWS, n, n, q.len()) {
+    if flat::refuses(flat::MOST_ROWS, n, n, q.len()) {
         return false;
     }
-    if flat::refuses(MOST_ROWS, n, n, r.len()) {
+    if flat::refuses(flat::MOST_ROWS, n, n, r.len()) {
         return false;
     }
     wipe(q, n * n);
@@ -40,10 +37,10 @@ pub fn qr_decomposition(a: &[f64], n: usize, q: &mut [f64], r: &mut [f64]) -> bo
 pub fn compute_eigenvalues(m: &mut [f64], n: usize, values: &mut [f64]) -> bool
     ensures { λ r. ⌜ ((now (m .exit), now (values .exit)), r) ≡ computeEigenvalues n (now (m .entry), now (values .entry)) ⌝ }
 {
-    if flat::refuses(MOST_ROWS, n, n, m.len()) {
+    if flat::refuses(flat::MOST_ROWS, n, n, m.len()) {
         return false;
     }
-    if flat::refuses(MOST_ROWS, n, 1, values.len()) {
+    if flat::refuses(flat::MOST_ROWS, n, 1, values.len()) {
         return false;
     }
     rounds(m, n);

@@ -3,6 +3,9 @@ ghost use mathlib.Core.Path.{_≡_};
 ghost use lib.ListN.{length};
 ghost use Rattle.flat.specs.Places.{refuses, lacks, dotIn};
 
+// The most rows of contrasts: one less than the twelve conditions.
+pub const MOST_ROWS: usize = 11;
+
 // Are p rows of k places too few, or too many, or too many for memory of this length? More than 12 of either are always too many.
 pub fn refuses(most: usize, p: usize, k: usize, len: usize) -> bool
     ensures { λ r. ⌜ r ≡ refuses most p k len ⌝ }

@@ -5,15 +5,12 @@ ghost use mathlib.Core.Path.{_≡_};
 ghost use Rattle.orthonormal.specs.Orthonormal.{orthonormalize};
 use rows::orthonormal_rows;
 
-// Twelve conditions, and one contrast less.
-const MOST_ROWS: usize = 11;
-
 // The p rows of k places become orthonormal, each after those before it.
 // Sizes that are not taken, or no room for the rows: false, and nothing is changed.
 pub fn orthonormalize(c: &mut [f64], p: usize, k: usize) -> bool
     ensures { λ r. ⌜ (now (c .exit), r) ≡ orthonormalize p k (now (c .entry)) ⌝ }
 {
-    if flat::refuses(MOST_ROWS, p, k, c.len()) {
+    if flat::refuses(flat::MOST_ROWS, p, k, c.len()) {
         return false;
     }
     orthonormal_rows(c, p, k);

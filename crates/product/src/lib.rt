@@ -6,11 +6,6 @@ ghost use lib.ListN.{length};
 ghost use Rattle.product.specs.Product.{misfits, productIn, matrixMultiplyCsc};
 use rows::product_rows;
 
-// Twelve conditions, and one contrast less.
-const MOST_ROWS: usize = 11;
-
-const MOST_CONDITIONS: usize = 12;
-
 // Is there no room for n rows of l places in a, for n rows of w places in out, or for w columns of l places in b?
 fn misfits(
     a: &[f64],
@@ -24,16 +19,16 @@ fn misfits(
 ) -> bool
     ensures { λ r. ⌜ r ≡ misfits (length (now (a .entry))) (length (now (b .entry))) u t n l w (length (now (out .entry))) ⌝ }
 {
-    if flat::refuses(MOST_CONDITIONS, n, l, a.len()) {
+    if flat::refuses(base::MOST_CONDITIONS, n, l, a.len()) {
         return true;
     }
-    if flat::refuses(MOST_CONDITIONS, n, w, out.len()) {
+    if flat::refuses(base::MOST_CONDITIONS, n, w, out.len()) {
         return true;
     }
-    if MOST_CONDITIONS < u {
+    if base::MOST_CONDITIONS < u {
         return true;
     }
-    if MOST_CONDITIONS < t {
+    if base::MOST_CONDITIONS < t {
         return true;
     }
     b.len() + t + u <= w * u + l * t
@@ -65,13 +60,13 @@ pub fn product(
 pub fn matrix_multiply_csc(c: &[f64], s: &[f64], p: usize, k: usize, out: &mut [f64]) -> bool
     ensures { λ r. ⌜ (now (out .exit), r) ≡ matrixMultiplyCsc p k (now (c .entry)) (now (s .entry)) (now (out .entry)) ⌝ }
 {
-    if flat::refuses(MOST_ROWS, p, k, c.len()) {
+    if flat::refuses(flat::MOST_ROWS, p, k, c.len()) {
         return false;
     }
-    if flat::refuses(MOST_CONDITIONS, k, k, s.len()) {
+    if flat::refuses(base::MOST_CONDITIONS, k, k, s.len()) {
         return false;
     }
-    if flat::refuses(MOST_ROWS, p, p, out.len()) {
+    if flat::refuses(flat::MOST_ROWS, p, p, out.len()) {
         return false;
     }
     let mut cs = [0.0; 132];
