@@ -4,6 +4,7 @@ pub mod Folds
 pub mod Cuts
 pub mod Parts
 pub mod Bounds
+pub mod Places
 pub mod Order
 pub mod Fills
 pub mod Words

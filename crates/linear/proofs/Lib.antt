@@ -1,4 +1,3 @@
-pub mod Places
 pub mod Candidates
 pub mod Largest
 pub mod Columns

@@ -10,14 +10,14 @@ use lib.ListN.{set}
 use lib.Seq.{getD-set-other}
 use lib.Ieee.{Float, nan, lt}
 use Rattle.base.specs.Loop.{loop, turns}
-use Rattle.base.proofs.Loops.{keeps}
+use Rattle.base.proofs.Loops.{keeps, loop-map}
 use Rattle.float.specs.Words.{tiny}
 use Rattle.float.specs.Singles.{absOf}
 use Rattle.linear.specs.Rows.{at, swapAt, swapRows, lessAt, lessRow, pivotRow, pivoted, skips, clearRow, clearBelow}
 use Rattle.linear.specs.System.{cleared, column, forward}
-use Rattle.linear.specs.Skips.{beforeColumn, skippedIn, skippedColumn}
+use Rattle.linear.specs.Skips.{beforeColumn, skippedIn, skippedColumn, skippedCount, smallDivisors}
 use Rattle.base.proofs.Walks.{walks}
-use Rattle.linear.proofs.Places.{other-row}
+use Rattle.base.proofs.Places.{other-row}
 use Rattle.linear.proofs.Candidates.{pivot-from}
 use Rattle.linear.proofs.Skipped.{next-column}
 
@@ -96,3 +96,11 @@ module _ (n w i : ℕ) (m : List Float) (h : i < n) (l : n ≤ w) where
   pub skipped-at-end : skips (forward n w m) (i * w + i) ≡ skippedColumn n w i m
   unfolding forward skippedIn
   skipped-at-end = ap (λ (x : Float). lt (absOf x) tiny) (stands .1 h)
+
+-- and as many are too small as columns were skipped
+pub skipped-as-many : (n w : ℕ) (m : List Float) → n ≤ w → smallDivisors n w (forward n w m) ≡ skippedCount n w m
+unfolding smallDivisors skippedCount
+skipped-as-many n w m l =
+    loop-map (λ (k : ℕ). k) (λ k. Unit {0}) n _ _
+    (λ i k h t. (ap (λ (b : Bool). k + cond b 1 0) (skipped-at-end n w i m h l), tt))
+    0 0 (omega arith) tt

@@ -16,7 +16,7 @@ use Rattle.linear.specs.Rows.{at, room, skips}
 use Rattle.linear.specs.System.{forward, backValue, backRow, backward, solveLinearSystem}
 use Rattle.linear.specs.Skips.{skippedColumn}
 use Rattle.base.proofs.Walks.{walks}
-use Rattle.linear.proofs.Places.{other-row, other-column}
+use Rattle.base.proofs.Places.{other-row, other-column}
 use Rattle.linear.proofs.Lengths.{forward-length}
 use Rattle.linear.proofs.Untouched.{skipped-at-end}
 

@@ -31,3 +31,7 @@ skippedCount n w m = loop 0 n (λ col k. k + cond (skippedColumn n w col m) 1 0)
 -- and in the inversion
 unfoldable pub skippedInverseCount : ℕ → List Float → ℕ
 skippedInverseCount n m = loop 0 n (λ col k. k + cond (skippedInverse n col m) 1 0) 0
+
+-- how many divisors of back substitution are too small
+unfoldable pub smallDivisors : ℕ → ℕ → List Float → ℕ
+smallDivisors n w m = loop 0 n (λ i k. k + cond (skips m (i * w + i)) 1 0) 0

@@ -1,12 +1,12 @@
 -- Different places of a flat matrix: of another row, or of another column.
 use Prim.Native.Nat.{ℕ, _+_, _*_, _<_}
-use mathlib.Core.Path.{_≡_, refl}
+use mathlib.Core.Path.{_≡_, refl, sym}
 use mathlib.Core.Bool.{Bool, true, false}
 use native.Mathlib.Omega.{arith}
 use native.Mathlib.Nat.{mul-le-mul-right}
 use borrow.Author.Tests.{ltb-true, ltb-false}
 use lib.Dec.{ltb}
 use Rattle.base.proofs.Bounds.{row-end}
 
 pub other-row : (a b w x y : ℕ) → a < b → x < w → a * w + x ≡ b * w + y → ⊥
 other-row a b w x y h k e =
@@ -21,3 +21,14 @@ other-column a b w x y h k e = go (ltb a b) refl
     go false q =
         let r = mul-le-mul-right w (ltb-false a b q) in
         omega (arith, r)
+
+pub another-column : (a b w x y : ℕ) → (x ≡ y → ⊥) → x < w → y < w → a * w + x ≡ b * w + y → ⊥
+another-column a b w x y h j k e = go (ltb x y) (ltb y x) refl refl
+  where
+    go : (s t : Bool) → ltb x y ≡ s → ltb y x ≡ t → ⊥
+    go true t p q = other-column b a w y x (ltb-true x y p) k (sym e)
+    go false true p q = other-column a b w x y (ltb-true y x q) j e
+    go false false p q =
+        let l = ltb-false x y p in
+        let g = ltb-false y x q in
+        h (omega arith)
