@@ -12,7 +12,7 @@ use lib.Seq.{drop-cons, length-take-le}
 use Rattle.base.proofs.Loops.{loop-length}
 use Rattle.float.specs.Words.{plusZero}
 use Rattle.base.proofs.Bounds.{product-le, row-end}
-use Rattle.balanced.specs.Squares.{Line, unlike, marginStep, meanMargins}
+use Rattle.balanced.specs.Squares.{unlike, marginStep, meanMargins}
 
 pub length-zero : {A : Type 0} (xs : List A) → length xs ≡ 0 → xs ≡ []
 length-zero [] e = refl
@@ -32,13 +32,6 @@ pos-of ne = omega (arith, ne)
 module _ (a b : ℕ) (rows : a ≤ 6) (columns : b ≤ 6) where
   pub few-cells : a * b ≤ 36
   few-cells = product-le 6 6 rows columns
-
-  -- the cells of a row, and those of a column, stay within the design
-  pub row-line : (i : ℕ) → i < a → Line (a * b) (i * b) 1 b
-  row-line i h q l = omega (arith, row-end i a b h (le-refl (a * b)), mul-one q)
-
-  pub column-line : (j : ℕ) → j < b → Line (a * b) (j * 1) b a
-  column-line j h q l = omega (arith, row-end q a b l (le-refl (a * b)), mul-one j)
 
 -- the search from c on: here, further on, or nowhere
 module _ (n : ℕ) (ns : List ℕ) (c : ℕ) where

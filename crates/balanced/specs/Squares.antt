@@ -87,10 +87,6 @@ balancedSs ms r a b =
 
 -- ---- what the code keeps
 
--- a line of n places stays among k
-abbrev pub Line : ℕ → ℕ → ℕ → ℕ → Type 0
-Line k s d n = (q : ℕ) → q < n → s + q * d < k
-
 pub record Fitting (ms : List Float) (r a b : ℕ) : Type 0 where
   pub rows : a ≤ 6
   pub columns : b ≤ 6

@@ -2,7 +2,8 @@
 ghost use mathlib.Core.Path.{_≡_};
 ghost use Prim.Native.Nat.{ℕ, _+_, _*_, _≤_, _<_};
 ghost use lib.ListN.{length};
-ghost use Rattle.balanced.specs.Squares.{Line, unlike, otherCount, meanLine, meanMargins, abRow, ssAb, noEffects, Fitting, effectsOf, balancedSs};
+ghost use Rattle.base.specs.Lists.{Line};
+ghost use Rattle.balanced.specs.Squares.{unlike, otherCount, meanLine, meanMargins, abRow, ssAb, noEffects, Fitting, effectsOf, balancedSs};
 
 pub struct Effects {
     pub ss_a: f64,

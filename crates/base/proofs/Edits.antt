@@ -10,12 +10,6 @@ use Rattle.base.specs.Lists.{total, cut}
 use Rattle.base.proofs.Cuts.{flatten-cut}
 
 -- where the group behind group g begins
-pub total-next : (ns : List ℕ) (g : ℕ) → g < length ns → total (take (suc g) ns) ≡ total (take g ns) + getD ns g 0
-unfolding total
-total-next [] g h = absurd (not-suc-le-zero h)
-total-next (n ∷ ns) zero h = omega arith
-total-next (n ∷ ns) (suc g) h = omega (arith, total-next ns g (le-of-suc-le-suc h))
-
 pub map-set : {A B : Type 0} (f : A → B) (xs : List A) (i : ℕ) (y : A) → map f (set xs i y) ≡ set (map f xs) i (f y)
 map-set f [] i y = refl
 map-set f (x ∷ xs) zero y = refl

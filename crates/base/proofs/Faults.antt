@@ -1,6 +1,6 @@
--- Laws of faults: two tests joined by "or", and a check that stands behind two others.
+-- Laws of faults: two tests joined by "or" or by "and", and a check that stands behind two others.
 use mathlib.Core.Path.{_≡_, refl, sym, _∙_}
-use mathlib.Core.Bool.{Bool, true, false, cond, _||_}
+use mathlib.Core.Bool.{Bool, true, false, cond, _||_, _&&_}
 use Prim.Native.Nat.{ℕ}
 use borrow.Author.Tests.{eqb-true, eq-eqb}
 use lib.Dec.{eqb}
@@ -12,6 +12,11 @@ use Rattle.base.proofs.Order.{first-wins, second-asked, stops, goes-on}
 pub neither : (x y : Bool) → (x || y) ≡ false → (x ≡ false) × (y ≡ false)
 neither true y e = (e, cc)
 neither false y e = (refl, e)
+
+-- and where two tests both hold, each does
+pub both : (x y : Bool) → (x && y) ≡ true → (x ≡ true) × (y ≡ true)
+both true y e = (refl, e)
+both false y e = (e, cc)
 
 -- the order of checks, not how they are bracketed, says which refusal wins
 pub checks-in-order : (q s t : Refusal) → ((q orElse s) orElse t) ≡ (q orElse (s orElse t))

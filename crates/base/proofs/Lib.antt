@@ -11,5 +11,6 @@ pub mod Words
 pub mod Runs
 pub mod Firsts
 pub mod Faults
+pub mod Searches
 pub mod Edits
 pub mod Sizes

@@ -1,11 +1,12 @@
--- Different places of a flat matrix: of another row, or of another column.
+-- Places of a flat matrix: they differ in another row, or in another column; and those of a row, and of a column, lie within it.
 use Prim.Native.Nat.{ℕ, _+_, _*_, _<_}
 use mathlib.Core.Path.{_≡_, refl, sym}
 use mathlib.Core.Bool.{Bool, true, false}
 use native.Mathlib.Omega.{arith}
-use native.Mathlib.Nat.{mul-le-mul-right}
+use native.Mathlib.Nat.{le-refl, mul-one, mul-le-mul-right}
 use borrow.Author.Tests.{ltb-true, ltb-false}
 use lib.Dec.{ltb}
+use Rattle.base.specs.Lists.{Line}
 use Rattle.base.proofs.Bounds.{row-end}
 
 pub other-row : (a b w x y : ℕ) → a < b → x < w → a * w + x ≡ b * w + y → ⊥
@@ -32,3 +33,11 @@ another-column a b w x y h j k e = go (ltb x y) (ltb y x) refl refl
         let l = ltb-false x y p in
         let g = ltb-false y x q in
         h (omega arith)
+
+-- a row, and a column, of a rows of b places
+module _ (a b : ℕ) where
+  pub row-line : (i : ℕ) → i < a → Line (a * b) (i * b) 1 b
+  row-line i h q l = omega (arith, row-end i a b h (le-refl (a * b)), mul-one q)
+
+  pub column-line : (j : ℕ) → j < b → Line (a * b) (j * 1) b a
+  column-line j h q l = omega (arith, row-end q a b l (le-refl (a * b)), mul-one j)

@@ -1,5 +1,5 @@
--- Words for lists: sums of sizes, a list cut into groups, one list laid over another, a part of a list, places filled one by one.
-use Prim.Native.Nat.{ℕ, _+_}
+-- Words for lists: sums of sizes, a list cut into groups, one list laid over another, a part of a list, places filled one by one, places that lie apart.
+use Prim.Native.Nat.{ℕ, _+_, _*_, _<_}
 use mathlib.Core.List.{List, [], _∷_, _++_}
 use lib.ListN.{length, take, drop, set, replicate}
 use Rattle.base.specs.Loop.{loop}
@@ -38,3 +38,7 @@ module _ {A : Type 0} where
 
   unfoldable pub listed : ℕ → (ℕ → A) → List A → List A
   listed n f out = loop 0 n (putAt f) out
+
+-- n places from s on, d apart, lie among the first k
+abbrev pub Line : ℕ → ℕ → ℕ → ℕ → Type 0
+Line k s d n = (q : ℕ) → q < n → s + q * d < k

@@ -9,7 +9,7 @@ use lib.ListN.{length, getD, take, drop, set, drop-of-length-le}
 use lib.Seq.{drop-cons, sets, take-take}
 use Rattle.base.specs.Lists.{total}
 use Rattle.base.proofs.Cuts.{total-split}
-use Rattle.base.proofs.Edits.{total-next}
+use Rattle.base.proofs.Sizes.{total-next}
 use Rattle.base.proofs.Runs.{sets-over}
 use Rattle.cells.specs.Sorting.{sums}
 
@@ -43,9 +43,9 @@ module _ (ns : List ℕ) where
 -- a cell ends before a later one begins, and within the whole
 module _ (ns : List ℕ) (c : ℕ) (h : c < length ns) where
   pub ends-within : total (take c ns) + getD ns c 0 ≤ total ns
-  ends-within = omega (arith, total-next ns c h, total-split ns (suc c))
+  ends-within = omega (arith, total-next ns c h, total-split ns (c + 1))
 
   pub ends-before : (d : ℕ) → c < d → total (take c ns) + getD ns c 0 ≤ total (take d ns)
   ends-before d l =
-      let t = take-take (suc c) d ns l in
-      omega (arith, total-next ns c h, total-split (take d ns) (suc c), ap total t)
+      let t = take-take (c + 1) d ns (omega arith) in
+      omega (arith, total-next ns c h, total-split (take d ns) (c + 1), ap total t)

@@ -7,6 +7,7 @@ use borrow.Author.Tests.{eq-eqb, ne-eqb, le-leb, lt-leb, leb-true, eqb-true}
 use lib.Dec.{eqb, leb}
 use lib.Ieee.{Float}
 use lib.ListN.{length}
+use Rattle.base.proofs.Faults.{both}
 use Rattle.contrasts.specs.Covariance.{Laid}
 use Rattle.contrasts.specs.Contrasts.{fits}
 
@@ -46,11 +47,6 @@ module _ (n k readings means room : ℕ) where
             pub room-asked : k ≤ means → leb ((k - 1) * (k - 1)) room ≡ Fits
             unfolding fits
             room-asked h = rw (le-leb 2 n a, le-leb n 64 b, le-leb 2 k d, le-leb k 12 e, eq-eqb readings (n * k) f, le-leb k means h)
-
--- where two tests both hold, each does
-pub both : (x y : Bool) → (x && y) ≡ true → (x ≡ true) × (y ≡ true)
-both true y e = (refl, e)
-both false y e = (e, cc)
 
 -- what is known where the sizes fit: how the readings and means lie, and that there is room
 pub laid : (n k : ℕ) (xs ms : List Float) (room : ℕ) → fits n k (length xs) (length ms) room ≡ true → Laid n k xs ms × ((k - 1) * (k - 1) ≤ room)

@@ -9,7 +9,7 @@ use lib.Ieee.{Float}
 use lib.ListN.{length, take}
 use Rattle.base.specs.declared.Refusal.{Refusal}
 use Rattle.base.specs.Lists.{over}
-use Rattle.base.specs.Refusals.{refuse, none, when, unless, _orElse_, guarded}
+use Rattle.base.specs.Refusals.{refuse, none, when, unless, _orElse_, firstFault, guarded}
 use Rattle.base.proofs.Order.{second-asked, stops, goes-on, answers-refused, answers-numbers, passed-answer, refused-answer}
 use Rattle.stats.specs.Sums.{hasNan}
 use Rattle.design.specs.declared.TwoWayData.{TwoWayData}
@@ -39,7 +39,7 @@ plain-or r s p q = go (eqb (r .number) 0)
     go false = p
 
 plain-empty : (b c : ℕ) (ns : List ℕ) → Plain (emptyRefusal b c ns)
-unfolding emptyRefusal
+unfolding firstFault
 plain-empty b c [] = λ z. refl
 plain-empty b c (n ∷ ns) = plain-or _ _ (plain-when (eqb n 0) (refuse 7 (c / b) (c % b)) (eqb-false 7 0 refl)) (plain-empty b (c + 1) ns)
 

@@ -11,8 +11,9 @@ use lib.Ieee.{Float}
 use lib.ListN.{length, getD, take, replicate}
 use lib.Seq.{take-at}
 use Rattle.base.specs.Lists.{total, over}
-use Rattle.base.specs.Refusals.{refuse, when, unless}
+use Rattle.base.specs.Refusals.{refuse, when, unless, firstFault}
 use Rattle.base.proofs.Bounds.{product-le}
+use Rattle.base.proofs.Faults.{both}
 use Rattle.base.proofs.Order.{both-passed, no-fault, needed-there}
 use Rattle.stats.specs.Sums.{hasNan}
 use Rattle.design.specs.Cells.{cellCounts}
@@ -38,10 +39,6 @@ pub record Passed (xs : List Float) (us vs : List ℕ) (lent : ℕ) : Type 0 whe
   pub adds : total (cellCounts (levels us) (levels vs) xs us vs) ≡ length xs
   pub more : levels us * levels vs + 1 ≤ length xs
 
-both-true : (x y : Bool) → (x && y) ≡ true → (x ≡ true) × (y ≡ true)
-both-true true y e = (refl, e)
-both-true false y e = (e, cc)
-
 pub shaped : (xs : List Float) (us vs : List ℕ) (lent : ℕ) → shapeRefusal xs us vs lent .number ≡ 0 → Shaped xs us vs lent
 unfolding shapeRefusal
 shaped xs us vs lent h =
@@ -49,7 +46,7 @@ shaped xs us vs lent h =
     let q = both-passed (when (ltb 512 (length xs)) (refuse 11 2 (length xs))) _ (p .1) in
     let r = both-passed (unless (eqb (length us) (length xs) && eqb (length vs) (length xs)) (refuse 5 (length us) (length vs))) _ (q .1) in
     let s = both-passed (when (eqb (length xs) 0) (refuse 1 0 0)) (when (hasNan xs) (refuse 4 0 0)) (r .1) in
-    let t = both-true (eqb (length us) (length xs)) (eqb (length vs) (length xs)) (needed-there _ (refuse 5 (length us) (length vs)) (eqb-false 5 0 refl) (r .0)) in
+    let t = both (eqb (length us) (length xs)) (eqb (length vs) (length xs)) (needed-there _ (refuse 5 (length us) (length vs)) (eqb-false 5 0 refl) (r .0)) in
     record {
       places = ltb-false lent 6400 (no-fault (ltb lent 6400) (refuse 12 6400 lent) (eqb-false 12 0 refl) (p .0));
       readings = ltb-false 512 (length xs) (no-fault (ltb 512 (length xs)) (refuse 11 2 (length xs)) (eqb-false 11 0 refl) (q .0));
@@ -126,7 +123,7 @@ module _ (xs : List Float) (us vs : List ℕ) (a b : ℕ) (k : Leveled xs us vs 
 
 -- where no cell is empty each count is 1 or more
 no-empty : (b k : ℕ) (ns : List ℕ) → emptyRefusal b k ns .number ≡ 0 → (c : ℕ) → c < length ns → 1 ≤ getD ns c 0
-unfolding emptyRefusal
+unfolding firstFault
 no-empty b k [] e c h = absurd (not-suc-le-zero h)
 no-empty b k (n ∷ ns) e zero h =
     let p = both-passed (when (eqb n 0) (refuse 7 (k / b) (k % b))) (emptyRefusal b (k + 1) ns) e in

@@ -8,7 +8,7 @@ use lib.Ieee.{Float}
 use lib.ListN.{length}
 use Rattle.base.specs.declared.Refusal.{Refusal}
 use Rattle.base.specs.Limits.{mostReadings, mostLevels, scratchPlaces}
-use Rattle.base.specs.Refusals.{refuse, none, when, unless, _orElse_}
+use Rattle.base.specs.Refusals.{refuse, when, unless, _orElse_, firstFault}
 use Rattle.stats.specs.Sums.{hasNan}
 use Rattle.design.specs.Cells.{cellCounts}
 
@@ -38,10 +38,13 @@ levelsRefusal a b =
     orElse when (ltb a 2) (refuse 6 1 a)
     orElse when (ltb b 2) (refuse 6 2 b)
 
--- the first cell without a reading: these are the counts of the cells from number c on, where factor B has b levels
-unfoldable pub emptyRefusal : ℕ → ℕ → List ℕ → Refusal
-emptyRefusal b c [] = none
-emptyRefusal b c (n ∷ ns) = when (eqb n 0) (refuse 7 (c / b) (c % b)) orElse emptyRefusal b (c + 1) ns
+-- cell number c, where factor B has b levels: n is no reading
+abbrev pub emptyFault : ℕ → ℕ → ℕ → Refusal
+emptyFault b c n = when (eqb n 0) (refuse 7 (c / b) (c % b))
+
+-- the first cell without a reading: these are the counts of the cells from number c on
+abbrev pub emptyRefusal : ℕ → ℕ → List ℕ → Refusal
+emptyRefusal b c ns = firstFault (emptyFault b) c ns
 
 -- the counts ns of all cells, by A, then B, and n readings in all: an empty cell, or no reading beyond one a cell
 unfoldable pub cellsRefusal : ℕ → ℕ → ℕ → List ℕ → Refusal

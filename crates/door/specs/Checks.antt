@@ -1,14 +1,14 @@
 -- The one-way checks in document 01's order, and the view of one group. Readings are xs, the groups' sizes ns.
-use Prim.Native.Nat.{ℕ, _+_, _≤_}
+use Prim.Native.Nat.{ℕ, _≤_}
 use mathlib.Core.Path.{_≡_}
-use mathlib.Core.List.{List, [], _∷_}
+use mathlib.Core.List.{List, []}
 use lib.Dec.{ltb, leb}
 use lib.Ieee.{Float}
 use lib.ListN.{length, getD}
 use Rattle.base.specs.declared.Refusal.{Refusal}
 use Rattle.base.specs.Limits.{mostGroups}
 use Rattle.base.specs.Lists.{cut}
-use Rattle.base.specs.Refusals.{refuse, none, when, _orElse_, guarded}
+use Rattle.base.specs.Refusals.{refuse, when, _orElse_, firstFault, guarded}
 use Rattle.base.specs.Sizes.{Sized, sizesRefusal}
 use Rattle.stats.specs.Sums.{hasNan}
 
@@ -19,9 +19,8 @@ groupFault k group =
     orElse when (hasNan group) (refuse 4 k 0)
 
 -- group by group; the first of these groups has the number k
-unfoldable pub groupsRefusal : ℕ → List (List Float) → Refusal
-groupsRefusal k [] = none
-groupsRefusal k (group ∷ groups) = groupFault k group orElse groupsRefusal (k + 1) groups
+abbrev pub groupsRefusal : ℕ → List (List Float) → Refusal
+groupsRefusal k groups = firstFault groupFault k groups
 
 -- all the one-way checks
 unfoldable pub oneWayRefusal : List Float → List ℕ → Refusal

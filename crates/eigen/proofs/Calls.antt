@@ -1,4 +1,4 @@
--- The ends of the two calls: b, d, f are what the tests of the sizes said; the rest is the memory after each step. The last steps make NaNs canonical and leave it as it was.
+-- The ends of the two calls: b, d, f are what the tests of the sizes said; the rest is the memory after each step. The last two of the first call make NaNs canonical and leave it as it was.
 use Prim.Native.Nat.{ℕ, _*_}
 use mathlib.Core.Path.{_≡_}
 use mathlib.Core.Bool.{Bool, true, false}
@@ -38,6 +38,6 @@ module _ (n : ℕ) (m v : List Float) {b : Bool} (e : b ≡ refuses mostRows n n
     unfolding computeEigenvalues
     eigen-second h' = rw (← e, h, ← e', h')
 
-    pub eigen-taken : {x y z : List Float} → d ≡ false → x ≡ rounds n m → y ≡ x → z ≡ diagonal n y v → ((y, z), true) ≡ computeEigenvalues n (m, v)
+    pub eigen-taken : {x y : List Float} → d ≡ false → x ≡ rounds n m → y ≡ diagonal n x v → ((x, y), true) ≡ computeEigenvalues n (m, v)
     unfolding computeEigenvalues
-    eigen-taken h' q r s = rw (← e, h, ← e', h', ← q, s, r)
+    eigen-taken h' q r = rw (← e, h, ← e', h', ← q, r)

@@ -44,7 +44,6 @@ pub fn compute_eigenvalues(m: &mut [f64], n: usize, values: &mut [f64]) -> bool
         return false;
     }
     rounds(m, n);
-    float::canon_places(m, n * n);
     diagonal(m, n, values);
     true
 }

@@ -63,6 +63,6 @@ resultText a = cond (eqb (a .refusal .number) 0) (fisherText a) (refusedText (a 
 unfoldable pub textOf : List ℕ → List ℕ
 textOf set = cond (ltb 4130 (length set)) (refusedText (refuse 10 4130 4131)) (resultText (setAnova Fisher set))
 
--- the text at the front of out, and its length; nothing where out is too short for every answer
+-- the text at the front of out, and its length; nothing where out has fewer than the 256 places into which every answer fits
 unfoldable pub answerOf : List ℕ → List ℕ → List ℕ × ℕ
 answerOf set out = cond (ltb (length out) 256) (out, 0) (puts out 0 (textOf set))

@@ -59,5 +59,5 @@ pub fn dot(x: &[f64], p: usize, s: usize, y: &[f64], q: usize, t: usize, n: usiz
     for m in 0..n {
         sum += x[p + m * s] * y[q + m * t];
     }
-    sum
+    float::canon(sum)
 }

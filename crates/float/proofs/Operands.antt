@@ -37,6 +37,11 @@ pub clamp-keeps-minus-zero : clampOf minusZero plusZero one ≡ minusZero
 unfolding clampOf lt neg ofBits
 clamp-keeps-minus-zero = refl
 
+-- Bounds that cross, which the source refuses: the upper one wins.
+pub upper-bound-wins : clampOf plusZero one (neg one) ≡ neg one
+unfolding clampOf lt neg ofBits
+upper-bound-wins = refl
+
 -- the numbers are those whose absolute value is below infinity
 pub below-infinity : (x : Float) → lt (absOf x) (one ⊘ plusZero) ≡ isFinite x
 unfolding isFinite absOf lt div ofBits

@@ -47,7 +47,7 @@ nextResult p result base = cond (eqb (p % 2) 1) (result ⊗ base) result
 abbrev pub nextBase : ℕ → Float → Float
 nextBase p base = cond (eqb p 0) base (base ⊗ base)
 
--- The rule for powers, while p is not 0. The first argument is a number of turns that is not used up.
+-- The rule for powers, while p is not 0. The first argument is a number of turns, and never too few.
 unfoldable pub powerFrom : ℕ → Float → Float → ℕ → Float
 powerFrom zero result base p = result
 powerFrom (suc turns) result base p = cond (eqb p 0) result (powerFrom turns (nextResult p result base) (nextBase (p / 2) base) (p / 2))

@@ -18,7 +18,8 @@ use Rattle.stats.specs.declared.Figure.{Figure}
 use Rattle.stats.specs.Figures.{meanRefusal, meanAnswer, refusedFigure}
 use Rattle.stats.specs.Sums.{meanOf, sqDev}
 use Rattle.door.proofs.Doors.{two-there}
-use Rattle.door.proofs.Walk.{here, fits-here, faults, fine-here}
+use Rattle.base.proofs.Searches.{here, fits-here, faults, fine-here}
+use Rattle.door.specs.Checks.{groupFault}
 use Rattle.groups.specs.declared.Row.{Row}
 use Rattle.groups.specs.Rows.{rowOf, rowAnswer, noRow}
 
@@ -41,10 +42,10 @@ laying xs ns g at f out = sets out g (map (λ (x : List Float). f (rowOf x)) (cu
 
 module _ (xs : List Float) (ns : List ℕ) (g at : ℕ) where
   -- a group without a fault has its row
-  module _ (h : g < length ns) (room : at + total (drop g ns) ≡ length xs) (small : length xs ≤ 512) (fine : faults xs ns g at .number ≡ 0) where
+  module _ (h : g < length ns) (room : at + total (drop g ns) ≡ length xs) (small : length xs ≤ 512) (fine : faults xs ns g at groupFault .number ≡ 0) where
     pub row-here : rowAnswer (here xs ns g at) ≡ rowOf (here xs ns g at)
     row-here =
-        let two = two-there (g + 1) (here xs ns g at) (fine-here xs ns g at h room small fine .0) in
+        let two = two-there (g + 1) (here xs ns g at) (fine-here xs ns g at groupFault h fine .0) in
         let all = length-part at (getD ns g 0) xs (fits-here xs ns g at h room) in
         row-there (here xs ns g at) (omega arith) (omega (arith, fits-here xs ns g at h room))
 

@@ -1,1 +1,2 @@
 pub mod Wipes
+pub mod Lays

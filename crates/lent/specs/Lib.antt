@@ -1,1 +1,2 @@
 pub mod Wiping
+pub mod Laying

@@ -10,6 +10,7 @@ use lib.ListN.{length, set, length-set}
 use lib.Seq.{getD-set-same, getD-set-other}
 use lib.Ieee.{Float, nan, lt}
 use Rattle.base.proofs.Bounds.{row-end}
+use Rattle.base.proofs.Faults.{both}
 use Rattle.float.specs.Words.{plusZero, tiny}
 use Rattle.float.specs.Singles.{absOf}
 use Rattle.linear.specs.Rows.{at, room, skips}
@@ -61,16 +62,12 @@ module _ (n i : ℕ) (h : i < n) (d : Float) (small : lt (absOf d) tiny ≡ true
       walks (backRow n) Held n (λ k s g p. (long k s (p .0), (divisor-kept k s (p .1 .0), zero-put k s g p)))
       0 m (omega arith) (l, (e, λ q. absurd (omega arith))) .1 .1 (omega arith)
 
-fitting : (a b : Bool) → (a && b) ≡ true → b ≡ true
-fitting true b e = e
-fitting false b e = cc
-
 module _ (n i : ℕ) (m : List Float) (h : i < n) (taken : room n (n + 1) m ≡ true) where
   -- a divisor of the eliminated matrix that is too small: the solution has +0.0 there
   pub skipped-zero : skips (forward n (n + 1) m) (i * (n + 1) + i) ≡ true → at (solveLinearSystem n m .0) (i * (n + 1) + n) ≡ plusZero
   unfolding solveLinearSystem
   skipped-zero e =
-      let l = leb-true (n * (n + 1)) (length m) (fitting (leb n 36) (leb (n * (n + 1)) (length m)) taken) in
+      let l = leb-true (n * (n + 1)) (length m) (both (leb n 36) (leb (n * (n + 1)) (length m)) taken .1) in
       rw taken (zero-stays n i h (at (forward n (n + 1) m) (i * (n + 1) + i)) e (forward n (n + 1) m) (rw (forward-length n (n + 1) m) l) refl)
 
   -- a column that was skipped: the solution has +0.0 there

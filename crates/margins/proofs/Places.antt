@@ -15,7 +15,7 @@ use Rattle.base.specs.Lists.{total, cut}
 use Rattle.base.proofs.Bounds.{product-le, row-end}
 use Rattle.base.proofs.Cuts.{total-turn, total-split, cut-at}
 use Rattle.base.proofs.Sizes.{total-next}
-use Rattle.margins.specs.Table.{Starts, Laid, Line, Fitting, tableFits}
+use Rattle.margins.specs.Table.{Starts, Laid, Fitting, tableFits}
 
 either-false : (x : Bool) {y : Bool} → cond x false y ≡ true → (x ≡ false) × (y ≡ true)
 either-false false e = (refl, e)
@@ -75,10 +75,3 @@ module _ (ns ss : List ℕ) (xs : List Float) (a b : ℕ) (f : Fitting ns xs a b
 
   pub laid : Starts (a * b) ns ss → Laid (a * b) ns ss xs
   laid s = record { few = few-cells; long = f .counts; starts = s; room = f .room }
-
-  -- the cells of a row, and those of a column, stay within the design
-  pub row-line : (i : ℕ) → i < a → Line (a * b) (i * b) 1 b
-  row-line i h q l = omega (arith, row-end i a b h (le-refl (a * b)), mul-one q)
-
-  pub column-line : (j : ℕ) → j < b → Line (a * b) (j * 1) b a
-  column-line j h q l = omega (arith, row-end q a b l (le-refl (a * b)), mul-one j)

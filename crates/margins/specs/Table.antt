@@ -93,10 +93,6 @@ pub record Laid (k : ℕ) (ns ss : List ℕ) (xs : List Float) : Type 0 where
   pub starts : Starts k ns ss
   pub room : total (take k ns) ≤ length xs
 
--- a line of n cells stays among k
-abbrev pub Line : ℕ → ℕ → ℕ → ℕ → Type 0
-Line k s d n = (q : ℕ) → q < n → s + q * d < k
-
 -- what a table that fits leaves known
 pub record Fitting (ns : List ℕ) (xs : List Float) (a b : ℕ) : Type 0 where
   pub counts : a * b ≤ length ns

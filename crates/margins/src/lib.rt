@@ -4,9 +4,9 @@ ghost use mathlib.Core.List.{foldl};
 ghost use Prim.Native.Nat.{ℕ, _+_, _*_, _≤_, _<_};
 ghost use lib.ListN.{length, take};
 ghost use lib.Dec.{leb};
-ghost use Rattle.base.specs.Lists.{cut, total};
+ghost use Rattle.base.specs.Lists.{cut, total, Line};
 ghost use Rattle.stats.specs.Sums.{addBy, sqDist};
-ghost use Rattle.margins.specs.Table.{Starts, Laid, Line, cellAt, tally, tallyLine, margins, cellMeans, ssError, noTable, Fitting, tableFits, tableOf, cellTable};
+ghost use Rattle.margins.specs.Table.{Starts, Laid, cellAt, tally, tallyLine, margins, cellMeans, ssError, noTable, Fitting, tableFits, tableOf, cellTable};
 
 // A sum, and how many were added, counted in floats as the source counts.
 pub struct Tally {

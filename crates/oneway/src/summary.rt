@@ -45,7 +45,7 @@ pub fn summarize(readings: &[f64], sizes: &[u32]) -> Summary
     }
 }
 
-// Of the first k rows, which need not come from readings.
+// Of the first k rows, which need not come from readings, so that a mean may be any NaN.
 pub fn summarize_rows(rows: [Row; 16], k: usize) -> Summary
     requires { ⌜ Small k rows ⌝ }
     ensures { λ r. ⌜ r ≡ summaryOf (take k rows) ⌝ }
@@ -58,7 +58,7 @@ pub fn summarize_rows(rows: [Row; 16], k: usize) -> Summary
     while g < k {
         n_total += rows[g].size;
         group_sizes[g] = rows[g].size;
-        group_means[g] = rows[g].mean;
+        group_means[g] = float::canon(rows[g].mean);
         sq_devs[g] = rows[g].sq_dev;
         g += 1;
     }

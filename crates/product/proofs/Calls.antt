@@ -1,4 +1,4 @@
--- The ends of the calls: b, d, f are what the tests of the sizes said; x, y, z the memory after each step. The last step makes NaNs canonical and leaves it as it was.
+-- The ends of the calls: b, d, f are what the tests of the sizes said; x and y the memory after each step.
 use Prim.Native.Nat.{ℕ}
 use mathlib.Core.Path.{_≡_}
 use mathlib.Core.Bool.{Bool, true, false}
@@ -24,6 +24,6 @@ module _ (p k : ℕ) (c s out : List Float) {b : Bool} (e : b ≡ refuses mostRo
       unfolding matrixMultiplyCsc
       csc-third h'' = rw (← e, h, ← e', h', ← e'', h'')
 
-      pub csc-taken : {x y z : List Float} → f ≡ false → x ≡ times p k k c s blank → y ≡ timesTurned p k p x c out → z ≡ y → (z, true) ≡ matrixMultiplyCsc p k c s out
+      pub csc-taken : {x y : List Float} → f ≡ false → x ≡ times p k k c s blank → y ≡ timesTurned p k p x c out → (y, true) ≡ matrixMultiplyCsc p k c s out
       unfolding matrixMultiplyCsc csc
-      csc-taken h'' u v w = rw (← e, h, ← e', h', ← e'', h'', w, v, u)
+      csc-taken h'' u v = rw (← e, h, ← e', h', ← e'', h'', v, u)

@@ -72,6 +72,5 @@ pub fn matrix_multiply_csc(c: &[f64], s: &[f64], p: usize, k: usize, out: &mut [
     let mut cs = [0.0; 132];
     product_rows(c, s, 1, k, p, k, k, &mut cs);
     product_rows(&cs, c, k, 1, p, k, p, out);
-    float::canon_places(out, p * p);
     true
 }

@@ -1,4 +1,4 @@
--- Laws of numbers laid over lent places.
+-- The two ways out of the call, behind its own check.
 use mathlib.Core.Path.{_≡_, refl}
 use mathlib.Core.List.{List, [], _∷_}
 use Prim.Native.Nat.{ℕ, _≤_}
@@ -6,27 +6,17 @@ use native.Mathlib.Omega.{arith}
 use borrow.Author.Tests.{eq-eqb, ne-eqb, le-ltb}
 use lib.Ieee.{Float}
 use lib.ListN.{length, set}
-use Rattle.base.specs.Lists.{over}
+use Rattle.lent.specs.Laying.{laid}
+use Rattle.lent.proofs.Lays.{laid-room}
 use Rattle.twoway.specs.declared.TwoWayAnovaResult.{TwoWayAnovaResult}
 use Rattle.twoway.specs.Anova.{twoWayAnova}
 use Rattle.rates.specs.Calls.{numbersOf, handed, rated}
 
--- six places written one after another
-pub six-laid : {A : Type 0} (a b c d e f : A) (out : List A) → 6 ≤ length out
-    → set (set (set (set (set (set out 0 a) 1 b) 2 c) 3 d) 4 e) 5 f ≡ over (a ∷ b ∷ c ∷ d ∷ e ∷ f ∷ []) out
-six-laid a b c d e f [] h = absurd (omega arith)
-six-laid a b c d e f (_ ∷ []) h = absurd (omega arith)
-six-laid a b c d e f (_ ∷ _ ∷ []) h = absurd (omega arith)
-six-laid a b c d e f (_ ∷ _ ∷ _ ∷ []) h = absurd (omega arith)
-six-laid a b c d e f (_ ∷ _ ∷ _ ∷ _ ∷ []) h = absurd (omega arith)
-six-laid a b c d e f (_ ∷ _ ∷ _ ∷ _ ∷ _ ∷ []) h = absurd (omega arith)
-six-laid a b c d e f (_ ∷ _ ∷ _ ∷ _ ∷ _ ∷ _ ∷ out) h = refl
-
 module _ (xs : List Float) (us vs : List ℕ) (scratch out left : List Float) (r : TwoWayAnovaResult) (told : _≡_ {A = List Float × TwoWayAnovaResult} (left, r) (twoWayAnova xs us vs scratch)) where
   -- an analysis that is accepted hands out its numbers
-  pub accepted : (s : List Float) → 6 ≤ length out → r .refusal .number ≡ 0 → s ≡ over (numbersOf r) out → (left, (s, 0)) ≡ rated xs us vs scratch out
+  pub accepted : (s : List Float) → 6 ≤ length out → r .refusal .number ≡ 0 → s ≡ laid (numbersOf r) out → (left, (s, 0)) ≡ rated xs us vs scratch out
   unfolding rated handed
-  accepted s h z p = rw (le-ltb (length out) 6 h, ← told, eq-eqb (r .refusal .number) 0 z, p)
+  accepted s h z p = rw (le-ltb (length out) 6 h, ← told, eq-eqb (r .refusal .number) 0 z, p, laid-room (numbersOf r) out h)
 
   -- and one that is refused its refusal's number
   pub refused : 6 ≤ length out → (r .refusal .number ≡ 0 → ⊥) → (left, (out, r .refusal .number)) ≡ rated xs us vs scratch out

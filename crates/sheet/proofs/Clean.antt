@@ -11,49 +11,31 @@ use lib.Ieee.{Float, isNan}
 use lib.ListN.{length, getD, take, drop, set, length-append, length-map}
 use lib.Seq.{length-take-le}
 use Rattle.base.specs.Lists.{total, cut}
-use Rattle.base.specs.Refusals.{refuse, none, when, _orElse_}
+use Rattle.base.specs.Refusals.{refuse, none, when, _orElse_, firstFault}
 use Rattle.base.proofs.Cuts.{length-cut, flatten-cut, cut-flatten, total-flatten}
 use Rattle.base.proofs.Order.{both-passed, no-fault}
 use Rattle.stats.specs.Sums.{hasNan}
+use Rattle.stats.proofs.Adding.{no-nan-from}
 use Rattle.base.specs.Sizes.{sizesRefusal}
 use Rattle.door.specs.Checks.{groupFault, groupsRefusal, oneWayRefusal}
 use Rattle.groups.specs.Soundness.{someOutside}
 use Rattle.groups.proofs.Counted.{not-outside}
 use Rattle.door.proofs.Doors.{passed, two-there}
 
--- a NaN neither first nor behind
-apart : (x y : Bool) → cond x true y ≡ false → (x ≡ false) × (y ≡ false)
-apart true y e = (e, cc)
-apart false y e = (refl, e)
-
 -- readings without a NaN stay so
 pub no-append : (xs ys : List Float) → hasNan xs ≡ false → hasNan ys ≡ false → hasNan (xs ++ ys) ≡ false
 unfolding hasNan
 no-append [] ys e f = f
 no-append (x ∷ xs) ys e f =
-    let p = apart (isNan x) (hasNan xs) e in
+    let p = no-nan-from x xs e in
     rw (p .0) (no-append xs ys (p .1) f)
-
-pub no-take : (n : ℕ) (xs : List Float) → hasNan xs ≡ false → hasNan (take n xs) ≡ false
-unfolding hasNan
-no-take zero xs e = refl
-no-take (suc n) [] e = refl
-no-take (suc n) (x ∷ xs) e =
-    let p = apart (isNan x) (hasNan xs) e in
-    rw (p .0) (no-take n xs (p .1))
-
-pub no-drop : (n : ℕ) (xs : List Float) → hasNan xs ≡ false → hasNan (drop n xs) ≡ false
-unfolding hasNan
-no-drop zero xs e = e
-no-drop (suc n) [] e = refl
-no-drop (suc n) (x ∷ xs) e = no-drop n xs (apart (isNan x) (hasNan xs) e .1)
 
 pub no-set : (xs : List Float) (i : ℕ) (x : Float) → hasNan xs ≡ false → isNan x ≡ false → hasNan (set xs i x) ≡ false
 unfolding hasNan
 no-set [] i x e f = refl
-no-set (y ∷ ys) zero x e f = rw f (apart (isNan y) (hasNan ys) e .1)
+no-set (y ∷ ys) zero x e f = rw f (no-nan-from y ys e .1)
 no-set (y ∷ ys) (suc i) x e f =
-    let p = apart (isNan y) (hasNan ys) e in
+    let p = no-nan-from y ys e in
     rw (p .0) (no-set ys i x (p .1) f)
 
 -- each group has two readings, and no NaN
@@ -62,12 +44,12 @@ Clean [] = Unit {0}
 Clean (xs ∷ gs) = (2 ≤ length xs) × (hasNan xs ≡ false) × Clean gs
 
 clean-passes : (k : ℕ) (gs : List (List Float)) → Clean gs → groupsRefusal k gs ≡ none
-unfolding groupsRefusal groupFault
+unfolding firstFault groupFault
 clean-passes k [] c = refl
 clean-passes k (xs ∷ gs) c = rw (le-ltb (length xs) 2 (c .0), c .1) (clean-passes (k + 1) gs (c .2))
 
 passed-clean : (k : ℕ) (gs : List (List Float)) → groupsRefusal k gs .number ≡ 0 → Clean gs
-unfolding groupsRefusal groupFault
+unfolding firstFault groupFault
 passed-clean k [] z = tt
 passed-clean k (xs ∷ gs) z =
     let p = both-passed (groupFault k xs) (groupsRefusal (k + 1) gs) z in

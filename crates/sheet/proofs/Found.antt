@@ -12,7 +12,8 @@ use Rattle.base.specs.declared.Refusal.{Refusal}
 use Rattle.base.specs.Lists.{total, cut}
 use Rattle.base.specs.Refusals.{none}
 use Rattle.base.proofs.Cuts.{total-split, total-turn, cut-at}
-use Rattle.base.proofs.Edits.{total-next, flatten-set}
+use Rattle.base.proofs.Edits.{flatten-set}
+use Rattle.base.proofs.Sizes.{total-next}
 use Rattle.base.proofs.Firsts.{take-firsts}
 use Rattle.base.proofs.Order.{answers-numbers}
 use Rattle.groups.specs.declared.Row.{Row}
@@ -60,7 +61,7 @@ module _ (s : Sheet) (r : length (s .rows) ≡ 16) (g p : ℕ) where
       let n = total-next (sizesOf s) g (there-too o) in
       record {
         open-here = o;
-        next = rw (← first-sizes (s .groups) (s .rows) (g + 1) (omega arith), ← first-sizes (s .groups) (s .rows) g (omega arith), ← size-at (s .groups) (s .rows) g h, add-one) n;
+        next = rw (← first-sizes (s .groups) (s .rows) (g + 1) (omega arith), ← first-sizes (s .groups) (s .rows) g (omega arith), ← size-at (s .groups) (s .rows) g h) n;
         within = ahead-less (s .groups) (s .rows) (g + 1) (omega arith);
       }
 

@@ -26,12 +26,13 @@ use Rattle.groups.proofs.Counted.{sound-passes}
 use Rattle.oneway.specs.declared.AnovaKind.{AnovaKind}
 use Rattle.results.specs.Results.{refusedResult}
 use Rattle.oneway.specs.Anova.{anova, oneWayAnova, rowsReport}
+use Rattle.stats.proofs.Adding.{no-nan-taken, no-nan-left}
 use Rattle.sheet.specs.declared.Sheet.{Sheet}
 use Rattle.sheet.specs.declared.Edit.{Edit}
 use Rattle.sheet.specs.Sheets.{zeroPlaces, sheetOf, sizesOf, groupsOf, edited}
 use Rattle.sheet.specs.Calls.{Call, Replace, Append, Remove, judge, refusalOf, target, fresh, renewed, accepted, refusedWith, callOf, loadOf, reportOf, after, called, groupsLeft, sheetAfter}
 use Rattle.sheet.proofs.Judged.{group-there, replace-passed, append-passed, remove-passed}
-use Rattle.sheet.proofs.Clean.{no-append, no-take, no-drop, no-set, Clean, clean-at, clean-long, clean-set, clean-inside, Good, loaded-good, own-cut, good-passes}
+use Rattle.sheet.proofs.Clean.{no-append, no-set, Clean, clean-at, clean-long, clean-set, clean-inside, Good, loaded-good, own-cut, good-passes}
 use Rattle.sheet.proofs.Kept.{refused-unchanged}
 
 -- the sheet of given groups has these groups
@@ -123,7 +124,7 @@ module _ (gs : List (List Float)) (k : Good gs) where
       = rw (length-append, length-take-le p old (omega arith), length-drop) (omega arith) in
       record {
         long = omega (arith, q .1);
-        clean = no-append (take p old) (drop (suc p) old) (no-take p old (clean-at gs g (k .clean))) (no-drop (suc p) old (clean-at gs g (k .clean)));
+        clean = no-append (take p old) (drop (suc p) old) (no-nan-taken p old (clean-at gs g (k .clean))) (no-nan-left (suc p) old (clean-at gs g (k .clean)));
         room = omega (arith, k .fits, flatten-set-length gs g (take p old ++ drop (suc p) old) i);
       }
 

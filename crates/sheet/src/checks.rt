@@ -1,4 +1,5 @@
 // The checks before an edit, from the rows alone, and where a group's readings begin.
+use crate::Sheet;
 use base::Refusal;
 use groups::Row;
 ghost use mathlib.Core.Path.{_≡_};
@@ -9,7 +10,7 @@ ghost use Rattle.oneway.specs.Summary.{Small};
 ghost use Rattle.sheet.specs.Calls.{Call, noPlace, refusalOf, usedIn};
 
 // How many readings lie ahead of group n, which is where its own begin: as many as the n groups before it have.
-pub fn ahead(rows: [Row; 16], n: usize) -> usize
+pub fn ahead(rows: [Row; Sheet::ROWS], n: usize) -> usize
     requires { ⌜ Small n rows ⌝ }
     ensures { λ r. ⌜ r ≡ total (sizesIn n rows) ⌝ }
 {
@@ -23,7 +24,7 @@ pub fn ahead(rows: [Row; 16], n: usize) -> usize
 }
 
 // How many readings the sheet has; none where its rows are not sound.
-pub fn used(rows: [Row; 16], k: usize) -> usize
+pub fn used(rows: [Row; Sheet::ROWS], k: usize) -> usize
     ensures { λ r. ⌜ r ≡ usedIn k rows ⌝ }
 {
     let refusal = groups::sound::rows_refusal(rows, k);
@@ -34,7 +35,7 @@ pub fn used(rows: [Row; 16], k: usize) -> usize
 }
 
 // Unsound rows, or no such group or place.
-fn place_refusal(rows: [Row; 16], k: usize, group: usize, place: usize) -> Refusal
+fn place_refusal(rows: [Row; Sheet::ROWS], k: usize, group: usize, place: usize) -> Refusal
     ensures { λ r. ⌜ r ≡ (soundRefusal k rows orElse noPlace group place (sizesIn k rows)) ⌝ }
 {
     let refusal = groups::sound::rows_refusal(rows, k);
@@ -50,7 +51,13 @@ fn place_refusal(rows: [Row; 16], k: usize, group: usize, place: usize) -> Refus
     Refusal::none()
 }
 
-pub fn replace_refusal(rows: [Row; 16], k: usize, group: usize, place: usize, x: f64) -> Refusal
+pub fn replace_refusal(
+    rows: [Row; Sheet::ROWS],
+    k: usize,
+    group: usize,
+    place: usize,
+    x: f64,
+) -> Refusal
     ensures { λ r. ⌜ r ≡ refusalOf (Call.Replace group place x) k rows ⌝ }
 {
     let refusal = place_refusal(rows, k, group, place);
@@ -63,20 +70,20 @@ pub fn replace_refusal(rows: [Row; 16], k: usize, group: usize, place: usize, x:
     Refusal::none()
 }
 
-pub fn append_refusal(rows: [Row; 16], k: usize, group: usize, x: f64) -> Refusal
+pub fn append_refusal(rows: [Row; Sheet::ROWS], k: usize, group: usize, x: f64) -> Refusal
     ensures { λ r. ⌜ r ≡ refusalOf (Call.Append group x) k rows ⌝ }
 {
     let refusal = replace_refusal(rows, k, group, 0, x);
     if refusal.number != 0 {
         return refusal;
     }
-    if base::MOST_READINGS <= ahead(rows, k) {
+    if Sheet::PLACES <= ahead(rows, k) {
         return Refusal::new(11, 2, 513);
     }
     Refusal::none()
 }
 
-pub fn remove_refusal(rows: [Row; 16], k: usize, group: usize, place: usize) -> Refusal
+pub fn remove_refusal(rows: [Row; Sheet::ROWS], k: usize, group: usize, place: usize) -> Refusal
     ensures { λ r. ⌜ r ≡ refusalOf (Call.Remove group place) k rows ⌝ }
 {
     let refusal = place_refusal(rows, k, group, place);

@@ -7,12 +7,13 @@ use groups::Row;
 use oneway::AnovaKind;
 use results::OneWayAnovaResult;
 ghost use mathlib.Core.Path.{_≡_};
+ghost use Rattle.groups.specs.Rows.{emptyRow};
 ghost use Rattle.sheet.specs.Calls.{Call, callOf, loadOf, reportOf};
 
 // The groups' readings one after another, a row for each group, and zeros behind both. The only count beside the rows' sizes is that of the groups.
 pub struct Sheet {
-    pub places: [f64; 512],
-    pub rows: [Row; 16],
+    pub places: [f64; Sheet::PLACES],
+    pub rows: [Row; Sheet::ROWS],
     pub groups: usize,
 }
 
@@ -26,6 +27,13 @@ impl Sheet {
     pub const PLACES: usize = 512;
 
     pub const ROWS: usize = 16;
+
+    // The row of no group, which stands behind the groups' rows.
+    pub fn empty_row() -> Row
+        ensures { λ r. ⌜ r ≡ emptyRow ⌝ }
+    {
+        Row::empty()
+    }
 
     // The sheet of groups that pass one-way's checks; the zero sheet where they do not.
     pub fn load(readings: &[f64], sizes: &[u32]) -> Edit

@@ -12,25 +12,13 @@ ghost use Rattle.speed.specs.Calls.{analysed};
 // How many numbers an analysis hands out: nine, and the means of 16 groups.
 const PLACES: usize = 25;
 
-// The numbers, put into the first places; the places behind keep what they hold.
-fn put(out: &mut [f64], numbers: &[f64])
-    requires { ⌜ length (now numbers) ≤ length (now out) ⌝ }
-    ensures { λ _. ⌜ now (out .exit) ≡ over (now (numbers .entry)) (now (out .entry)) ⌝ }
-{
-    let mut i = 0;
-    while i < numbers.len() {
-        out[i] = numbers[i];
-        i += 1;
-    }
-}
-
 // Both lists of numbers, one behind the other.
 fn hand_out(out: &mut [f64], figures: [f64; 9], means: [f64; 16])
     requires { ⌜ 25 ≤ length (now out) ⌝ }
     ensures { λ _. ⌜ now (out .exit) ≡ over (figures ++ means) (now (out .entry)) ⌝ }
 {
-    put(out, &figures);
-    put(&mut out[9..], &means);
+    lent::put(out, &figures);
+    lent::put(&mut out[9..], &means);
 }
 
 // One analysis: 0 and its numbers, or the number of a refusal and `out` as it was.

@@ -8,7 +8,7 @@ use borrow.Author.Tests.{eqb-true, eqb-false}
 use lib.Dec.{eqb}
 use lib.Ieee.{Float, nan, isNan, div, lt, ofBits, ofInt}
 use Rattle.float.specs.Words.{_⊘_, count, plusZero, minusZero, one, tinier}
-use Rattle.float.specs.Singles.{absOf, leastOf, greatestOf}
+use Rattle.float.specs.Singles.{absOf, leastOf, greatestOf, clampOf}
 use Rattle.float.proofs.Operands.{greatest-of-nan, clamp-keeps-nan, clamp-keeps-minus-zero}
 use Rattle.sphericity.specs.Epsilons.{squareSum, ggRaw, epsilonGg}
 use Rattle.sphericity.specs.Mauchly.{trace, meanTrace, wRaw, mauchlyW}
@@ -48,8 +48,8 @@ module _ (k : ℕ) (vs : List Float) (h : 3 ≤ k) (l : k ≤ 12) where
 
 module _ (p : ℕ) (m : List Float) where
   -- a trace that is a NaN gives 1.0
-  pub lost-trace-is-one : trace p m ≡ nan → wRaw p m ≡ one
-  unfolding wRaw meanTrace absOf lt div ofBits
+  pub lost-trace-is-one : trace p m ≡ nan → mauchlyW p m ≡ one
+  unfolding mauchlyW wRaw meanTrace clampOf absOf lt div ofBits
   lost-trace-is-one e = rw e
 
   -- W keeps a NaN and a -0.0

@@ -1,10 +1,9 @@
 -- `compute_sphericity_corrections`: W and the two corrected analyses of n subjects under k conditions. The readings xs lie subject by subject; ms are the conditions' means.
-use Prim.Native.Nat.{ℕ, _-_, _*_, _≤_}
+use Prim.Native.Nat.{ℕ, _-_, _≤_}
 use mathlib.Core.Bool.{Bool, cond, _&&_}
 use mathlib.Core.List.{List}
-use lib.Dec.{leb, eqb}
+use lib.Dec.{leb}
 use lib.Ieee.{Float}
-use lib.ListN.{length}
 use Rattle.base.specs.Limits.{mostSubjects, mostConditions}
 use Rattle.float.specs.Words.{_⊗_}
 use Rattle.eigen.specs.Values.{zeros}
@@ -16,9 +15,9 @@ use Rattle.results.specs.declared.SphericityResult.{SphericityResult}
 use Rattle.results.specs.declared.CorrectedResult.{CorrectedResult}
 use Rattle.results.specs.declared.Corrections.{Corrections}
 
--- C S C', k - 1 rows of k - 1 places, in the first of 121 places
-unfoldable pub csc : ℕ → ℕ → List Float → List Float → List Float
-csc n k xs ms = contrastCovariance n k xs ms zeros .0
+-- C S C', k - 1 rows of k - 1 places, in the first of 121 places; and whether the sizes were taken
+unfoldable pub csc : ℕ → ℕ → List Float → List Float → List Float × Bool
+csc n k xs ms = contrastCovariance n k xs ms zeros
 
 -- the epsilon of the eigenvalues of the matrix m
 unfoldable pub ggOf : ℕ → List Float → Float
@@ -45,14 +44,9 @@ correctionsOf n k m f dn dd = record {
   «huynh_feldt» = corrected f dn dd (epsilonHf n k (ggOf k m));
 }
 
--- 2 to 64 subjects, 3 to 12 conditions, a reading for each of both, a mean for each condition
-unfoldable pub fits : ℕ → ℕ → ℕ → ℕ → Bool
-fits n k readings means = leb 2 n && (leb n mostSubjects && (leb 3 k && (leb k mostConditions && (eqb readings (n * k) && leb k means))))
-
--- what is taken gives its corrections; else nothing but zeros
+-- three conditions or more, and sizes that are taken, give their corrections; else nothing but zeros
 unfoldable pub computeSphericityCorrections : ℕ → ℕ → List Float → List Float → Float → Float → Float → Corrections
-computeSphericityCorrections n k xs ms f dn dd =
-    cond (fits n k (length xs) (length ms)) (correctionsOf n k (csc n k xs ms) f dn dd) noCorrections
+computeSphericityCorrections n k xs ms f dn dd = cond (leb 3 k && csc n k xs ms .1) (correctionsOf n k (csc n k xs ms .0) f dn dd) noCorrections
 
 -- ---- what the code keeps
 pub record Taken (n k : ℕ) : Type 0 where

@@ -5,38 +5,7 @@ mod mauchly;
 use results::CorrectedResult;
 use results::Corrections;
 ghost use mathlib.Core.Path.{_≡_};
-ghost use Rattle.sphericity.specs.Corrections.{Taken, csc, corrected, correctionsOf, fits, computeSphericityCorrections};
-
-// Are there 2 to 64 subjects, 3 to 12 conditions, a reading for each of both, and a mean for each condition?
-fn fits(n: usize, k: usize, readings: usize, means: usize) -> bool
-    ensures { λ r. ⌜ r ≡ fits n k readings means ⌝ }
-{
-    if n < 2 {
-        return false;
-    }
-    if base::MOST_SUBJECTS < n {
-        return false;
-    }
-    if k < 3 {
-        return false;
-    }
-    if base::MOST_CONDITIONS < k {
-        return false;
-    }
-    if readings != n * k {
-        return false;
-    }
-    k <= means
-}
-
-// C S C', in the first places.
-fn csc(readings: &[f64], means: &[f64], n: usize, k: usize) -> [f64; 121]
-    ensures { λ r. ⌜ r ≡ csc n k (now (readings .entry)) (now (means .entry)) ⌝ }
-{
-    let mut out = [0.0; 121];
-    contrasts::contrast_covariance(readings, means, n, k, &mut out);
-    out
-}
+ghost use Rattle.sphericity.specs.Corrections.{Taken, corrected, correctionsOf, computeSphericityCorrections};
 
 // One corrected analysis. The epsilons are canonical, F may be any NaN.
 fn corrected(f_stat: f64, df_num: f64, df_den: f64, epsilon: f64) -> CorrectedResult
@@ -84,9 +53,12 @@ pub fn compute_sphericity_corrections(
 ) -> Corrections
     ensures { λ r. ⌜ r ≡ computeSphericityCorrections n k (now (readings .entry)) (now (means .entry)) «f_stat» «df_num» «df_den» ⌝ }
 {
-    if fits(n, k, readings.len(), means.len()) {
-        let m = csc(readings, means, n, k);
-        return corrections_of(m, n, k, f_stat, df_num, df_den);
+    if k < 3 {
+        return results::no_corrections();
+    }
+    let mut csc = [0.0; 121];
+    if contrasts::contrast_covariance(readings, means, n, k, &mut csc) {
+        return corrections_of(csc, n, k, f_stat, df_num, df_den);
     }
     results::no_corrections()
 }

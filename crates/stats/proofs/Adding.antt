@@ -2,7 +2,7 @@
 use mathlib.Core.Path.{_≡_, refl, ap, _∙_}
 use mathlib.Core.List.{List, [], _∷_}
 use mathlib.Core.Bool.{Bool, true, false, cond}
-use Prim.Native.Nat.{ℕ, zero, suc, _+_, _<_, _≤_}
+use Prim.Native.Nat.{ℕ, zero, suc, _+_, _-_, _<_, _≤_}
 use native.Mathlib.Numerals.{add-one}
 use lib.ListN.{getD, length, take, drop, drop-of-length-le}
 use lib.Seq.{drop-cons}
@@ -10,6 +10,7 @@ use lib.Ieee.{Float, nan, isNan}
 use Rattle.base.proofs.Fills.{at-taken, past-taken}
 use Rattle.base.proofs.Folds.{rest, fold-step, fold-ends}
 use Rattle.float.specs.Words.{_⊕_, minusZero}
+use Rattle.base.proofs.Searches.{here}
 use Rattle.stats.specs.Sums.{addBy, sumBy, hasNan}
 
 module _ {A : Type 0} (f : A → Float) (xs : List A) where
@@ -56,7 +57,7 @@ module _ (xs : List Float) where
   nan-told false i e h = rw (drop-of-length-le xs h) at e
 
 -- a part of a list that has no NaN has none
-no-nan-from : (x : Float) (xs : List Float) → hasNan (x ∷ xs) ≡ false → (isNan x ≡ false) × (hasNan xs ≡ false)
+pub no-nan-from : (x : Float) (xs : List Float) → hasNan (x ∷ xs) ≡ false → (isNan x ≡ false) × (hasNan xs ≡ false)
 unfolding hasNan
 no-nan-from x xs e = go (isNan x) refl e
   where
@@ -64,17 +65,18 @@ no-nan-from x xs e = go (isNan x) refl e
     go true p e = (p ∙ e, cc)
     go false p e = (p, e)
 
-no-nan-taken : (n : ℕ) (xs : List Float) → hasNan xs ≡ false → hasNan (take n xs) ≡ false
+pub no-nan-taken : (n : ℕ) (xs : List Float) → hasNan xs ≡ false → hasNan (take n xs) ≡ false
 unfolding hasNan
 no-nan-taken zero xs e = refl
 no-nan-taken (suc n) [] e = refl
 no-nan-taken (suc n) (x ∷ xs) e = let p = no-nan-from x xs e in rw (p .0) (no-nan-taken n xs (p .1))
 
-no-nan-left : (n : ℕ) (xs : List Float) → hasNan xs ≡ false → hasNan (drop n xs) ≡ false
+pub no-nan-left : (n : ℕ) (xs : List Float) → hasNan xs ≡ false → hasNan (drop n xs) ≡ false
 unfolding hasNan
 no-nan-left zero xs e = e
 no-nan-left (suc n) [] e = refl
 no-nan-left (suc n) (x ∷ xs) e = no-nan-left n xs (no-nan-from x xs e .1)
 
-pub no-nan-within : (a n : ℕ) (xs : List Float) → hasNan xs ≡ false → hasNan (take n (drop a xs)) ≡ false
-no-nan-within a n xs e = no-nan-taken n (drop a xs) (no-nan-left a xs e)
+-- nor has part g, which begins at `at`
+pub no-nan-here : (xs : List Float) (ns : List ℕ) (g at : ℕ) → hasNan xs ≡ false → hasNan (here xs ns g at) ≡ false
+no-nan-here xs ns g at e = no-nan-taken (at + getD ns g 0 - at) (drop at xs) (no-nan-left at xs e)

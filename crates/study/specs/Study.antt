@@ -33,7 +33,7 @@ module _ (t : TwoWayAnovaResult) (r : ℕ) where
   abbrev pub componentB : Float
   componentB = (t .«factor_b» .ms ⊖ t .interaction .ms) ⊘ count (t .«levels_a» * r)
 
-  -- the total adds A, B, interaction, residual in that order
+  -- the total adds A, B, interaction, residual in that order; r readings are those of one cell
   unfoldable pub componentsOf : GaugeStudy
   componentsOf = record {
     refusal = none;

@@ -6,7 +6,7 @@ ghost use Prim.Native.Nat.{_*_, _≤_};
 ghost use lib.ListN.{length};
 ghost use Rattle.study.specs.Study.{balanceRefusal, studyRefusal, refusedStudy, componentsOf, gaugeStudy};
 
-// The components of variance, each as it comes out; meters are the levels of A, benches those of B.
+// The components of variance, each as it comes out; meters are the levels of A, benches those of B, readings those of one cell.
 pub struct GaugeStudy {
     pub refusal: Refusal,
     pub meters: usize,

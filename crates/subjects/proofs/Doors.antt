@@ -11,7 +11,7 @@ use lib.Ieee.{Float, isNan}
 use lib.ListN.{length, take, drop, getD, replicate, length-drop}
 use lib.Seq.{length-take-le}
 use Rattle.base.specs.Lists.{total, cut}
-use Rattle.base.specs.Refusals.{refuse, when, unless, _orElse_}
+use Rattle.base.specs.Refusals.{refuse, when, unless, _orElse_, firstFault}
 use Rattle.base.specs.Sizes.{sizesRefusal}
 use Rattle.base.proofs.Sizes.{sized}
 use Rattle.base.proofs.Order.{both-passed, no-fault, needed-there}
@@ -63,7 +63,7 @@ no-nan-joined (suc n) (x ∷ xs) p q = no-nan-more x (take n xs) xs (λ e. no-na
 
 -- subjects without a fault: their rows have k readings each, and none is a NaN
 rows-fine : (k i : ℕ) (ns : List ℕ) (xs : List Float) → total ns ≡ length xs → subjectsRefusal k i (cut ns xs) .number ≡ 0 → (ns ≡ replicate (length ns) k) × (hasNan xs ≡ false)
-unfolding subjectsRefusal cut total hasNan
+unfolding firstFault cut total hasNan
 rows-fine k i [] [] t h = (refl, refl)
 rows-fine k i [] (x ∷ xs) t h = absurd (omega (arith, t))
 rows-fine k i (n ∷ ns) xs t h =

@@ -9,7 +9,7 @@ use lib.ListN.{length, getD, replicate}
 use Rattle.base.specs.declared.Refusal.{Refusal}
 use Rattle.base.specs.Limits.{mostSubjects, mostConditions, mostReadings}
 use Rattle.base.specs.Lists.{cut}
-use Rattle.base.specs.Refusals.{refuse, none, when, unless, _orElse_}
+use Rattle.base.specs.Refusals.{refuse, when, unless, _orElse_, firstFault}
 use Rattle.base.specs.Sizes.{sizesRefusal}
 use Rattle.stats.specs.Sums.{hasNan}
 
@@ -31,9 +31,8 @@ subjectFault k i row =
     orElse when (hasNan row) (refuse 4 i 0)
 
 -- subject by subject; the first of these rows has the number i
-unfoldable pub subjectsRefusal : ℕ → ℕ → List (List Float) → Refusal
-subjectsRefusal k i [] = none
-subjectsRefusal k i (row ∷ rows) = subjectFault k i row orElse subjectsRefusal k (i + 1) rows
+abbrev pub subjectsRefusal : ℕ → ℕ → List (List Float) → Refusal
+subjectsRefusal k i rows = firstFault (subjectFault k) i rows
 
 -- all the checks
 unfoldable pub repeatedRefusal : List Float → List ℕ → Refusal

@@ -4,7 +4,7 @@ use mathlib.Core.List.{[], _∷_}
 use lib.Ieee.{Float, nan, isNan, ofBits}
 use lib.ListN.{replicate}
 use Rattle.base.specs.Lists.{total, cut}
-use Rattle.base.specs.Refusals.{refuse, none}
+use Rattle.base.specs.Refusals.{refuse, none, firstFault}
 use Rattle.base.specs.Sizes.{sizesRefusal}
 use Rattle.float.specs.Words.{plusZero}
 use Rattle.stats.specs.Sums.{hasNan}
@@ -22,5 +22,5 @@ refused-worked : (repeatedRefusal [] [] ≡ refuse 2 2 0)
     × (repeatedRefusal (x ∷ x ∷ nan ∷ []) (2 ∷ 1 ∷ []) ≡ refuse 9 2 1)
     × (repeatedRefusal (x ∷ x ∷ x ∷ nan ∷ []) (2 ∷ 2 ∷ []) ≡ refuse 4 2 0)
     × (repeatedRefusal (x ∷ x ∷ x ∷ x ∷ []) (2 ∷ 2 ∷ []) ≡ none)
-unfolding repeatedRefusal sizesRefusal designRefusal subjectsRefusal subjectFault total cut hasNan isNan ofBits
+unfolding repeatedRefusal sizesRefusal designRefusal firstFault subjectFault total cut hasNan isNan ofBits
 refused-worked = (refl, refl, refl, refl, refl, refl, refl, refl)

@@ -2,7 +2,7 @@
 ghost use mathlib.Core.Path.{_≡_};
 ghost use Rattle.tables.specs.Rows.{effectRow, plainRow, noRow};
 
-// One row of the table. Where there is no F, it is zero beside a mark that says so.
+// One row of the table: `f` is the source's `f_statistic`. Where there is no F, it is zero beside a mark that says so.
 pub struct AnovaTableRow {
     pub ss: f64,
     pub df: f64,

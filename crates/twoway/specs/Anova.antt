@@ -18,7 +18,7 @@ use Rattle.lent.specs.Wiping.{wiped}
 use Rattle.twoway.specs.declared.TwoWayAnovaResult.{TwoWayAnovaResult}
 use Rattle.twoway.specs.Results.{answerOf, refusedResult}
 
--- the effects of a by b cells with the means ms and the counts ns: by the plain formulas where all counts are equal, else by Type III
+-- `compute_two_way_type3_ss`: the effects of a by b cells with the means ms and the counts ns: by the plain formulas where all counts are equal, else by Type III
 unfoldable pub squaresOf : List Float → List ℕ → List ℕ → ℕ → ℕ → List Float → List ℕ → Effects
 squaresOf xs us vs a b ms ns =
     cond (eqb (otherCount ns) (getD ns 0 0)) (balancedSs ms (getD ns 0 0) a b)

@@ -7,6 +7,7 @@ use borrow.Author.Tests.{le-leb, lt-leb, leb-true, eqb-true}
 use lib.Dec.{leb, eqb}
 use lib.ListN.{length}
 use lib.Ieee.{Float}
+use Rattle.base.proofs.Faults.{both}
 use Rattle.base.specs.Limits.{mostLevels, mostReadings, scratchPlaces}
 use Rattle.type3.specs.Shape.{factorFits, fits, Fitting}
 
@@ -39,11 +40,6 @@ module _ (n codesA codesB a b lent : ℕ) where
   pub fits-lent : factorFits a codesA n ≡ true → factorFits b codesB n ≡ true → n ≤ mostReadings → leb scratchPlaces lent ≡ fits n codesA codesB a b lent
   unfolding fits
   fits-lent p q h = rw (p, q, le-leb n mostReadings h)
-
-both : (x y : Bool) → (x && y) ≡ true → (x ≡ true) × (y ≡ true)
-both true y e = (refl, e)
-both false true e = (e, refl)
-both false false e = (e, e)
 
 factor-known : (levels codes n : ℕ) → factorFits levels codes n ≡ true → (2 ≤ levels) × (levels ≤ mostLevels) × (codes ≡ n)
 unfolding factorFits

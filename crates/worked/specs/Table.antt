@@ -2,15 +2,14 @@
 use Prim.Native.Nat.{ℕ}
 use mathlib.Core.Path.{_≡_, refl}
 use mathlib.Core.Bool.{Bool, true, false, cond}
-use mathlib.Core.List.{List, [], _∷_, map, foldl}
+use mathlib.Core.List.{List, [], _∷_, _++_, map, foldl}
 use lib.Ieee.{Float, binary64, ofBits, toBits, add, sub, mul, div, neg, lt, ofInt, isNan}
 use lib.ListN.{replicate}
-use Rattle.base.specs.declared.Refusal.{Refusal}
-use Rattle.base.specs.Refusals.{guarded}
+use Rattle.base.specs.Refusals.{firstFault, guarded}
 use Rattle.base.specs.Lists.{total, cut, listed}
 use Rattle.stats.specs.Sums.{sumBy, hasNan}
 use Rattle.base.specs.Sizes.{sizesRefusal}
-use Rattle.door.specs.Checks.{groupFault, groupsRefusal, oneWayRefusal}
+use Rattle.door.specs.Checks.{groupFault, oneWayRefusal}
 use Rattle.oneway.specs.declared.AnovaKind.{AnovaKind}
 use Rattle.oneway.specs.declared.AnovaKind.the-variants.{Fisher, Welch}
 use Rattle.results.specs.declared.OneWayAnovaResult.{OneWayAnovaResult}
@@ -20,7 +19,7 @@ use Rattle.oneway.specs.Welch.{welchAnova}
 use Rattle.oneway.specs.Anova.{anova, oneWayAnova}
 use Rattle.base.specs.Loop.{loop, turns}
 use Rattle.design.specs.Cells.{cell, numbers, cells}
-use Rattle.design.specs.Checks.{largest, shapeRefusal, levelsRefusal, emptyRefusal, cellsRefusal, twoWayRefusal}
+use Rattle.design.specs.Checks.{largest, shapeRefusal, levelsRefusal, cellsRefusal, twoWayRefusal}
 use Rattle.margins.specs.Table.{tallyLine, noLevels, noCells, margins, cellMeans, ssError}
 use Rattle.balanced.specs.Squares.{unlike, otherCount, meanLine, meanMargins, abRow, ssAb, balancedSs}
 use Rattle.twoway.specs.declared.TwoWayAnovaResult.{TwoWayAnovaResult}
@@ -32,7 +31,16 @@ use Rattle.float.specs.Words.{plusZero}
 use Rattle.float.specs.Singles.{absOf, isFinite, leastOf, greatestOf, clampOf, powerFrom, powerOf}
 use Rattle.base.specs.Lists.{part}
 use Rattle.linear.specs.Determinant.{twoByTwo, detOf, matrixDeterminant}
-use Rattle.subjects.specs.Checks.{designRefusal, subjectFault, subjectsRefusal, repeatedRefusal}
+use Rattle.linear.specs.Rows.{swapRows, lessRow as lessLine, overRow as overLine, better, pivotRow, pivoted, clearRow, clearBelow}
+use Rattle.linear.specs.System.{cleared, column, forward, backSum, backValue, backRow, backward, solveLinearSystem}
+use Rattle.linear.specs.Inverse.{zeroRight, unitRow, unit, clearOther, clearOthers, scaled, reduced, fullColumn, fullColumns, matrixInverse}
+use Rattle.lent.specs.Wiping.{zeros as lentZeros}
+use Rattle.type3.specs.Coding.{effectCode, codesFrom, productsOf, products, designRow}
+use Rattle.type3.specs.Matrices.{places, table, halfOf, leftHalf}
+use Rattle.type3.specs.Normal.{rowOf, normalAt, normalSystem}
+use Rattle.type3.specs.Wald.{waldRow, waldSum, covInv, waldSs}
+use Rattle.type3.specs.Answer.{beta, inverse, allEffects}
+use Rattle.subjects.specs.Checks.{designRefusal, subjectFault, repeatedRefusal}
 use Rattle.grid.specs.Table.{noSubjects, noConditions, subjectMeans, conditionSum, conditionMeans, ssTotal, ssSubjects, ssConditions}
 use Rattle.flat.specs.Places.{refuses, dot}
 use Rattle.orthonormal.specs.Orthonormal.{lessRow, overRow, projectRow, projectRows, normalizeRow, orthonormalRow, orthonormalRows, orthonormalize}
@@ -43,7 +51,7 @@ use Rattle.contrasts.specs.Covariance.{covSum, covariance, covRow, covRows, noC
 use Rattle.contrasts.specs.Contrasts.{contrastRow, contrastRows, contrasts, orthonormalContrasts, throughContrasts, fits, contrastCovariance}
 use Rattle.sphericity.specs.Epsilons.{values, ggRaw, epsilonGg, hfRaw, usable, epsilonHf}
 use Rattle.sphericity.specs.Mauchly.{trace, meanTrace, det, wRaw, mauchlyW, dfW}
-use Rattle.sphericity.specs.Corrections.{csc as cscHere, fits as fitsHere, ggOf, correctionsOf, computeSphericityCorrections}
+use Rattle.sphericity.specs.Corrections.{csc as cscHere, ggOf, correctionsOf, computeSphericityCorrections}
 use Rattle.repeated.specs.declared.RmAnovaResult.{RmAnovaResult}
 use Rattle.repeated.specs.Results.{answerOf as repeatedAnswer}
 use Rattle.repeated.specs.Anova.{repeatedMeasuresAnova}
@@ -55,7 +63,6 @@ pub data Asked : Type 0 where
   Root : ℕ → Asked
   TwoWay : List ℕ → List ℕ → List ℕ → Asked
   Study : List ℕ → List ℕ → List ℕ → Asked
-  TwoWayDoor : List ℕ → List ℕ → List ℕ → Asked
   Repeated : Bool → List ℕ → List ℕ → Asked
 
 -- a float by its bits, a mark as 1 or 0
@@ -65,14 +72,17 @@ shown x = toBits binary64 x
 abbrev mark : Bool → ℕ
 mark b = cond b 1 0
 
--- the refusal and its details; F, the degrees of freedom; the sums of squares, the mean squares and the grand mean, each behind its mark
+-- the refusal and its details; the groups and the readings; F, the degrees of freedom; the sums of squares, the mean squares and the grand mean, each behind its mark;
+-- the sizes of 16 groups and their means
 abbrev oneWayLine : OneWayAnovaResult → List ℕ
 oneWayLine r =
     r .refusal .number ∷ r .refusal .first ∷ r .refusal .second
+    ∷ r .«n_groups» ∷ r .«n_total»
     ∷ shown (r .statistic) ∷ shown (r .«df_between») ∷ shown (r .«df_within»)
     ∷ mark (r .«has_ss») ∷ shown (r .«ss_between») ∷ shown (r .«ss_within») ∷ shown (r .«ss_total»)
     ∷ mark (r .«has_ms») ∷ shown (r .«ms_between») ∷ shown (r .«ms_within»)
-    ∷ mark (r .«has_grand_mean») ∷ shown (r .«grand_mean») ∷ []
+    ∷ mark (r .«has_grand_mean») ∷ shown (r .«grand_mean»)
+    ∷ r .«group_sizes» ++ map shown (r .«group_means»)
 
 -- the refusal and its details; the sums of squares of A, B, the interaction, the residual and the total; the three F
 abbrev twoWayLine : TwoWayAnovaResult → List ℕ
@@ -94,9 +104,6 @@ repeatedLine r =
     ∷ shown (r .«within_subjects» .ss) ∷ shown (r .subjects .ss) ∷ shown (r .error .ss) ∷ shown (r .total .ss) ∷ shown (r .«within_subjects» .f)
     ∷ mark (r .«has_sphericity») ∷ shown (r .sphericity .w) ∷ shown (r .«greenhouse_geisser» .epsilon) ∷ shown (r .«huynh_feldt» .epsilon) ∷ []
 
-abbrev refusalLine : Refusal → List ℕ
-refusalLine r = r .number ∷ r .first ∷ r .second ∷ []
-
 -- what is lent
 unfoldable pub lent : List Float
 lent = replicate 6400 plusZero
@@ -107,7 +114,6 @@ answer (Root x) = shown (sqrtOf (ofBits binary64 x)) ∷ []
 answer (TwoWay xs us vs) = twoWayLine (twoWayAnova (map (ofBits binary64) xs) us vs lent .1)
 answer (Study xs us vs) = studyLine (gaugeStudy (map (ofBits binary64) xs) us vs lent .1)
 answer (Repeated wanted xs ns) = repeatedLine (repeatedMeasuresAnova (map (ofBits binary64) xs) ns wanted)
-answer (TwoWayDoor xs us vs) = refusalLine (twoWayRefusal (map (ofBits binary64) xs) us vs 6400)
 
 -- a line of the table: the question, and the answer that the paper gives
 abbrev Line : Type 0
@@ -182,11 +188,18 @@ notANumber = 0x7FF8000000000000
 
 -- a refusal's line: every other field is zero
 abbrev refusal : ℕ → ℕ → ℕ → List ℕ
-refusal n a b = n ∷ a ∷ b ∷ replicate 12 0
+refusal n a b = n ∷ a ∷ b ∷ replicate 46 0
 
--- Welch's line: F and the degrees of freedom, and nothing else
-abbrev welch : ℕ → ℕ → ℕ → List ℕ
-welch f b w = 0 ∷ 0 ∷ 0 ∷ f ∷ b ∷ w ∷ replicate 9 0
+-- what an accepted line of two groups of two readings begins with, and how it ends: their sizes and their means, and zeros for the other groups
+abbrev begins : List ℕ
+begins = 0 ∷ 0 ∷ 0 ∷ 2 ∷ 4 ∷ []
+
+abbrev ends : ℕ → ℕ → List ℕ
+ends first second = 2 ∷ 2 ∷ replicate 14 0 ++ first ∷ second ∷ replicate 14 0
+
+-- Welch's line: F and the degrees of freedom, and no sums of squares
+abbrev welch : ℕ → ℕ → ℕ → ℕ → ℕ → List ℕ
+welch f b w first second = begins ++ f ∷ b ∷ w ∷ replicate 9 0 ++ ends first second
 
 -- P6's readings, cell by cell
 abbrev p6 : List ℕ
@@ -195,23 +208,23 @@ p6 = n1 ∷ n3 ∷ n5 ∷ n7 ∷ n3 ∷ n5 ∷ n11 ∷ n13 ∷ []
 abbrev lines : List Line
 lines =
     -- P1 {1,3},{5,7} Fisher
-    (OneWay Fisher (n1 ∷ n3 ∷ n5 ∷ n7 ∷ []) (2 ∷ 2 ∷ []), 0 ∷ 0 ∷ 0 ∷ n8 ∷ n1 ∷ n2 ∷ 1 ∷ n16 ∷ n4 ∷ n20 ∷ 1 ∷ n16 ∷ n2 ∷ 1 ∷ n4 ∷ [])
+    (OneWay Fisher (n1 ∷ n3 ∷ n5 ∷ n7 ∷ []) (2 ∷ 2 ∷ []), begins ++ n8 ∷ n1 ∷ n2 ∷ 1 ∷ n16 ∷ n4 ∷ n20 ∷ 1 ∷ n16 ∷ n2 ∷ 1 ∷ n4 ∷ ends n2 n6)
     -- P2 the same, Welch
-    ∷ (OneWay Welch (n1 ∷ n3 ∷ n5 ∷ n7 ∷ []) (2 ∷ 2 ∷ []), welch n8 n1 n2)
+    ∷ (OneWay Welch (n1 ∷ n3 ∷ n5 ∷ n7 ∷ []) (2 ∷ 2 ∷ []), welch n8 n1 n2 n2 n6)
     -- P3 Welch {1,1},{5,7}
-    ∷ (OneWay Welch (n1 ∷ n1 ∷ n5 ∷ n7 ∷ []) (2 ∷ 2 ∷ []), welch n25 n1 n1)
+    ∷ (OneWay Welch (n1 ∷ n1 ∷ n5 ∷ n7 ∷ []) (2 ∷ 2 ∷ []), welch n25 n1 n1 n1 n6)
     -- P4 Welch {2,2},{5,7}; and {3,3},{5,7}, where the weighted sum overflows
-    ∷ (OneWay Welch (n2 ∷ n2 ∷ n5 ∷ n7 ∷ []) (2 ∷ 2 ∷ []), welch n16 n1 n1)
-    ∷ (OneWay Welch (n3 ∷ n3 ∷ n5 ∷ n7 ∷ []) (2 ∷ 2 ∷ []), welch infinite n1 n1)
+    ∷ (OneWay Welch (n2 ∷ n2 ∷ n5 ∷ n7 ∷ []) (2 ∷ 2 ∷ []), welch n16 n1 n1 n2 n6)
+    ∷ (OneWay Welch (n3 ∷ n3 ∷ n5 ∷ n7 ∷ []) (2 ∷ 2 ∷ []), welch infinite n1 n1 n3 n6)
     -- P5 Fisher {2,2},{2,2}; and {1,1},{3,3}
-    ∷ (OneWay Fisher (n2 ∷ n2 ∷ n2 ∷ n2 ∷ []) (2 ∷ 2 ∷ []), 0 ∷ 0 ∷ 0 ∷ notANumber ∷ n1 ∷ n2 ∷ 1 ∷ 0 ∷ 0 ∷ 0 ∷ 1 ∷ 0 ∷ 0 ∷ 1 ∷ n2 ∷ [])
-    ∷ (OneWay Fisher (n1 ∷ n1 ∷ n3 ∷ n3 ∷ []) (2 ∷ 2 ∷ []), 0 ∷ 0 ∷ 0 ∷ infinite ∷ n1 ∷ n2 ∷ 1 ∷ n4 ∷ 0 ∷ n4 ∷ 1 ∷ n4 ∷ 0 ∷ 1 ∷ n2 ∷ [])
+    ∷ (OneWay Fisher (n2 ∷ n2 ∷ n2 ∷ n2 ∷ []) (2 ∷ 2 ∷ []), begins ++ notANumber ∷ n1 ∷ n2 ∷ 1 ∷ 0 ∷ 0 ∷ 0 ∷ 1 ∷ 0 ∷ 0 ∷ 1 ∷ n2 ∷ ends n2 n2)
+    ∷ (OneWay Fisher (n1 ∷ n1 ∷ n3 ∷ n3 ∷ []) (2 ∷ 2 ∷ []), begins ++ infinite ∷ n1 ∷ n2 ∷ 1 ∷ n4 ∷ 0 ∷ n4 ∷ 1 ∷ n4 ∷ 0 ∷ 1 ∷ n2 ∷ ends n1 n3)
     -- P6 2x2, cells {1,3},{5,7},{3,5},{11,13}; and P7, its study
     ∷ (TwoWay p6 (0 ∷ 0 ∷ 0 ∷ 0 ∷ 1 ∷ 1 ∷ 1 ∷ 1 ∷ []) (0 ∷ 0 ∷ 1 ∷ 1 ∷ 0 ∷ 0 ∷ 1 ∷ 1 ∷ []), 0 ∷ 0 ∷ 0 ∷ n32 ∷ n72 ∷ n8 ∷ n8 ∷ n120 ∷ n16 ∷ n36 ∷ n4 ∷ [])
     ∷ (Study p6 (0 ∷ 0 ∷ 0 ∷ 0 ∷ 1 ∷ 1 ∷ 1 ∷ 1 ∷ []) (0 ∷ 0 ∷ 1 ∷ 1 ∷ 0 ∷ 0 ∷ 1 ∷ 1 ∷ []), 0 ∷ 0 ∷ 0 ∷ n6 ∷ n16 ∷ n3 ∷ n2 ∷ n27 ∷ [])
-    -- P8 one reading a cell; and one reading more, which is accepted
-    ∷ (TwoWayDoor (n1 ∷ n2 ∷ n3 ∷ n5 ∷ []) (0 ∷ 0 ∷ 1 ∷ 1 ∷ []) (0 ∷ 1 ∷ 0 ∷ 1 ∷ []), 2 ∷ 5 ∷ 4 ∷ [])
-    ∷ (TwoWayDoor (n1 ∷ n2 ∷ n3 ∷ n5 ∷ n7 ∷ []) (0 ∷ 0 ∷ 1 ∷ 1 ∷ 1 ∷ []) (0 ∷ 1 ∷ 0 ∷ 1 ∷ 1 ∷ []), 0 ∷ 0 ∷ 0 ∷ [])
+    -- P8 one reading a cell; and one reading more, which is accepted: its counts differ, so these are Type III
+    ∷ (TwoWay (n1 ∷ n2 ∷ n3 ∷ n5 ∷ []) (0 ∷ 0 ∷ 1 ∷ 1 ∷ []) (0 ∷ 1 ∷ 0 ∷ 1 ∷ []), 2 ∷ 5 ∷ 4 ∷ replicate 8 0)
+    ∷ (TwoWay (n1 ∷ n2 ∷ n3 ∷ n5 ∷ n7 ∷ []) (0 ∷ 0 ∷ 1 ∷ 1 ∷ 1 ∷ []) (0 ∷ 1 ∷ 0 ∷ 1 ∷ 1 ∷ []), 0 ∷ 0 ∷ 0 ∷ 0x4024924924924924 ∷ 0x4012492492492494 ∷ 0x3FF2492492492492 ∷ n2 ∷ 0x4037333333333332 ∷ 0x4014924924924924 ∷ 0x4002492492492494 ∷ 0x3FE2492492492492 ∷ [])
     -- P9 the subjects {1,3},{5,9}
     ∷ (Repeated false (n1 ∷ n3 ∷ n5 ∷ n9 ∷ []) (2 ∷ 2 ∷ []), 0 ∷ 0 ∷ 0 ∷ n9 ∷ n25 ∷ n1 ∷ n35 ∷ n9 ∷ 0 ∷ 0 ∷ 0 ∷ 0 ∷ [])
     -- P10 two subjects, three conditions, all zero, with sphericity: a hundred rounds of QR
@@ -233,5 +246,5 @@ abbrev given : Line → List ℕ
 given l = l .1
 
 pub worked : map asked lines ≡ map given lines
-unfolding answer repeatedMeasuresAnova repeatedAnswer repeatedRefusal designRefusal subjectsRefusal subjectFault noSubjects noConditions subjectMeans conditionSum conditionMeans ssTotal ssSubjects ssConditions part computeSphericityCorrections fitsHere correctionsOf cscHere ggOf values ggRaw epsilonGg hfRaw usable epsilonHf trace meanTrace det wRaw mauchlyW dfW matrixDeterminant detOf twoByTwo absOf isFinite leastOf greatestOf clampOf powerFrom powerOf contrastCovariance fits throughContrasts orthonormalContrasts contrasts contrastRows contrastRow covMatrix covRows covRow noCovariances covariance covSum computeEigenvalues diagonal rounds round qrHere zeros qrColumns qrColumn remains normalize newColumn putColumn projections project lessColumn columnOf blankColumn matrixMultiplyCsc csc blank product productRow orthonormalize orthonormalRows orthonormalRow normalizeRow projectRows projectRow overRow lessRow refuses dot lent twoWayAnova squaresOf answerOf twoWayRefusal shapeRefusal levelsRefusal emptyRefusal cellsRefusal largest cells cell numbers tallyLine listed noLevels noCells margins cellMeans ssError unlike otherCount meanLine meanMargins abRow ssAb balancedSs balanceRefusal studyRefusal componentsOf gaugeStudy loop turns oneWayAnova anova fisherAnova welchAnova noSizes noMeans oneWayRefusal sizesRefusal groupsRefusal groupFault guarded total cut hasNan sumBy sqrtOf ofBits toBits add sub mul div neg lt ofInt isNan
+unfolding answer refusedResult allEffects beta inverse waldRow waldSum covInv waldSs rowOf normalAt normalSystem places table halfOf leftHalf effectCode codesFrom productsOf products designRow lentZeros zeroRight unitRow unit clearOther clearOthers scaled reduced fullColumn fullColumns matrixInverse cleared column forward backSum backValue backRow backward solveLinearSystem swapRows lessLine overLine better pivotRow pivoted clearRow clearBelow repeatedMeasuresAnova repeatedAnswer repeatedRefusal designRefusal firstFault subjectFault noSubjects noConditions subjectMeans conditionSum conditionMeans ssTotal ssSubjects ssConditions part computeSphericityCorrections correctionsOf cscHere ggOf values ggRaw epsilonGg hfRaw usable epsilonHf trace meanTrace det wRaw mauchlyW dfW matrixDeterminant detOf twoByTwo absOf isFinite leastOf greatestOf clampOf powerFrom powerOf contrastCovariance fits throughContrasts orthonormalContrasts contrasts contrastRows contrastRow covMatrix covRows covRow noCovariances covariance covSum computeEigenvalues diagonal rounds round qrHere zeros qrColumns qrColumn remains normalize newColumn putColumn projections project lessColumn columnOf blankColumn matrixMultiplyCsc csc blank product productRow orthonormalize orthonormalRows orthonormalRow normalizeRow projectRows projectRow overRow lessRow refuses dot lent twoWayAnova squaresOf answerOf twoWayRefusal shapeRefusal levelsRefusal cellsRefusal largest cells cell numbers tallyLine listed noLevels noCells margins cellMeans ssError unlike otherCount meanLine meanMargins abRow ssAb balancedSs balanceRefusal studyRefusal componentsOf gaugeStudy loop turns oneWayAnova anova fisherAnova welchAnova noSizes noMeans oneWayRefusal sizesRefusal groupFault guarded total cut hasNan sumBy sqrtOf ofBits toBits add sub mul div neg lt ofInt isNan
 worked = refl

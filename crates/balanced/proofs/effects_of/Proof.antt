@@ -3,7 +3,8 @@ use Prim.Native.Nat.{_-_}
 use native.Mathlib.Omega.{arith}
 use borrow.Author.Needs.{needs}
 use native.Mathlib.Nat.{mul-one}
-use Rattle.balanced.proofs.Lines.{few-cells, row-line, column-line, taken}
+use Rattle.base.proofs.Places.{row-line, column-line}
+use Rattle.balanced.proofs.Lines.{few-cells, taken}
 use Rattle.float.proofs.Counts.{small-count}
 use Rattle.base.proofs.Bounds.{product-le}
 use Rattle.balanced.proofs.effects_of.Statement.{statement}
@@ -13,13 +14,13 @@ mean-margins-requires : tie.Need-mean-margins-requires
 mean-margins-requires c κs =
     let p = c .before .pre in
     let few = few-cells _ _ (p .rows) (p .columns) in
-    (omega (arith, few, p .all), (p .rows, (p .columns, (few, λ i h. rw (p .all) (row-line _ _ (p .rows) (p .columns) i h)))))
+    (omega (arith, few, p .all), (p .rows, (p .columns, (few, λ i h. rw (p .all) (row-line _ _ i h)))))
 
 mean-margins-requires-2 : tie.Need-mean-margins-requires-2
 mean-margins-requires-2 c κs =
     let p = c .before .before .pre in
     let few = few-cells _ _ (p .rows) (p .columns) in
-    (omega (arith, few, p .all), (p .columns, (p .rows, (omega (arith, p .columns, mul-one (c .before .before .args .b)), λ j h. rw (p .all) (column-line _ _ (p .rows) (p .columns) j h)))))
+    (omega (arith, few, p .all), (p .columns, (p .rows, (omega (arith, p .columns, mul-one (c .before .before .args .b)), λ j h. rw (p .all) (column-line _ _ j h)))))
 
 sum-requires : tie.Need-sum-requires
 sum-requires c κs = search needs

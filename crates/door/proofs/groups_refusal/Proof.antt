@@ -7,13 +7,14 @@ use lib.ListN.{length}
 use lib.ListN.{drop, getD}
 use Rattle.base.specs.Lists.{total, cut}
 use Rattle.base.proofs.Cuts.{total-turn}
-use Rattle.door.specs.Checks.{groupsRefusal}
-use Rattle.door.proofs.Walk.{fits-here, no-nan-here, faults, fault-here, fault-further, fault-nowhere}
+use Rattle.door.specs.Checks.{groupFault, groupsRefusal}
+use Rattle.base.proofs.Searches.{fits-here, faults, part-here, part-further, part-nowhere}
+use Rattle.stats.proofs.Adding.{no-nan-here}
 use Rattle.door.proofs.groups_refusal.Statement.{statement}
 use Rattle.door.proofs.groups_refusal.Tie as tie
 
 abbrev Inv-loop : tie.InvT-loop
-Inv-loop readings sizes nans at₀ g₀ at g = (g ≤ length sizes) × (at + total (drop g sizes) ≡ length readings) × (faults readings sizes g at ≡ groupsRefusal 1 (cut sizes readings))
+Inv-loop readings sizes nans at₀ g₀ at g = (g ≤ length sizes) × (at + total (drop g sizes) ≡ length readings) × (faults readings sizes g at groupFault ≡ groupsRefusal 1 (cut sizes readings))
 
 abbrev μ-loop : tie.MeasureT-loop
 μ-loop readings sizes nans at₀ g₀ at g = length sizes - g
@@ -69,7 +70,7 @@ returns c =
     let at = c .before .before .before .before .before .before in
     let a = at .before .before .before .before .args in
     let h = c .before .before .before .before .before .loop-test .taken in
-    fault-here (a .readings .now) (a .sizes .now) (at .loop .g) (at .loop .at) h _ (c .before .before .group-fault .ensures) (c .if1 .taken) ∙ at .loop .inv .2
+    part-here (a .readings .now) (a .sizes .now) (at .loop .g) (at .loop .at) groupFault h _ (c .before .before .group-fault .ensures) (c .if1 .taken) ∙ at .loop .inv .2
 
 add-g : tie.Need-add-g Inv-loop μ-loop
 add-g c = omega arith
@@ -84,7 +85,7 @@ loop-again c =
     let h = c .before .before .before .before .before .loop-test .taken in (
       omega arith,
       omega (arith, total-turn (a .sizes .now) (at .loop .g) h),
-      fault-further (a .readings .now) (a .sizes .now) (at .loop .g) (at .loop .at) h _ (c .before .before .group-fault .ensures) (c .if1 .left) ∙ at .loop .inv .2,
+      part-further (a .readings .now) (a .sizes .now) (at .loop .g) (at .loop .at) groupFault h _ (c .before .before .group-fault .ensures) (c .if1 .left) ∙ at .loop .inv .2,
     )
 
 none-requires : tie.Need-none-requires Inv-loop μ-loop
@@ -94,7 +95,7 @@ returns-2 : tie.Need-returns-2 Inv-loop μ-loop
 returns-2 c =
     let at = c .before .before in
     let a = at .before .before .before .before .args in
-    c .none .ensures ∙ fault-nowhere (a .readings .now) (a .sizes .now) (at .loop .g) (at .loop .at) (c .before .loop-test .left) ∙ at .loop .inv .2
+    c .none .ensures ∙ part-nowhere (a .readings .now) (a .sizes .now) (at .loop .g) (at .loop .at) groupFault (c .before .loop-test .left) ∙ at .loop .inv .2
 
 pub groups-refusal-spec : {M : Type 1} → statement M
 groups-refusal-spec =

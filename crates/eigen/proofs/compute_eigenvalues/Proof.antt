@@ -31,14 +31,12 @@ returns-2 c = eigen-second _ _ _ (c .before .before .before .refuses .ensures) (
 rounds-requires : tie.Need-rounds-requires
 rounds-requires c κs = let a = first (c .before .before .before) in (omega arith, (omega arith, omega arith))
 
-mul-canon-places : tie.Need-mul-canon-places
-mul-canon-places c = let k = first (c .before .before .before .before .before .before .before) in omega arith
-
-canon-places-requires : tie.Need-canon-places-requires
-canon-places-requires c κs = let k = first (c .before .before .before .before .before .before .before) in omega arith
-
 diagonal-requires : tie.Need-diagonal-requires
-diagonal-requires c κs = let a = first (c .before .before .before .before .before .before .before .before .before .before .before .before) in let b = second (c .before .before .before .before .before .before .before .before .before .before) in (omega arith, omega arith)
+diagonal-requires c κs =
+    let two = c .before .before .before .before .before .before in
+    let a = first (two .before .before) in
+    let b = second two in
+    (omega arith, omega arith)
 
 same-length : tie.Need-same-length
 same-length c = search needs
@@ -47,7 +45,11 @@ same-length-2 : tie.Need-same-length-2
 same-length-2 c = search needs
 
 returns-3 : tie.Need-returns-3
-returns-3 c = eigen-taken _ _ _ (c .before .before .before .before .before .before .before .before .before .before .before .before .before .before .before .before .refuses .ensures) (c .before .before .before .before .before .before .before .before .before .before .before .before .before .before .before .if1 .left) (c .before .before .before .before .before .before .before .before .before .before .before .before .before .before .refuses2 .ensures) (c .before .before .before .before .before .before .before .before .before .before .before .before .before .if2 .left) (c .before .before .before .before .before .before .before .before .before .before .before .rounds .ensures) (c .before .before .before .before .before .before .before .canon-places .ensures) (c .before .before .diagonal .ensures)
+returns-3 c =
+    let made = c .before .before .before .before .before .before .before in
+    let two = made .before .before in
+    let one = two .before .before in
+    eigen-taken _ _ _ (one .before .refuses .ensures) (one .if1 .left) (two .before .refuses2 .ensures) (two .if2 .left) (made .rounds .ensures) (c .before .before .diagonal .ensures)
 
 pub compute-eigenvalues-spec : {M : Type 1} → statement M
 compute-eigenvalues-spec =
@@ -58,8 +60,6 @@ compute-eigenvalues-spec =
     refuses-requires-2
     returns-2
     rounds-requires
-    mul-canon-places
-    canon-places-requires
     diagonal-requires
     same-length
     same-length-2

@@ -73,8 +73,13 @@ loop-less c = omega arith
 loop-again : tie.Need-loop-again Inv-loop μ-loop
 loop-again c = step _ _ _ _ _ _ (c .before .before .before .loop .inv) (c .before .before .loop-test .taken) refl
 
+canon-requires : tie.Need-canon-requires Inv-loop μ-loop
+canon-requires c κs = search needs
+
 returns-3 : tie.Need-returns-3 Inv-loop μ-loop
-returns-3 c = none-lacking _ _ _ _ _ _ _ _ (c .before .before .before .before .before .lacks .ensures) (c .before .before .before .before .if1 .left) (c .before .before .before .lacks2 .ensures) (c .before .before .if2 .left) (ends _ _ _ _ _ (c .before .loop .inv) (c .loop-test .left))
+returns-3 c =
+    let e = c .before in
+    none-lacking _ _ _ _ _ _ _ _ (e .before .before .before .before .before .lacks .ensures) (e .before .before .before .before .if1 .left) (e .before .before .before .lacks2 .ensures) (e .before .before .if2 .left) (c .canon .ensures ∙ ends _ _ _ _ _ (e .before .loop .inv) (e .loop-test .left))
 
 pub dot-spec : {M : Type 1} → statement M
 dot-spec =
@@ -98,4 +103,5 @@ dot-spec =
     add-m
     loop-less
     loop-again
+    canon-requires
     returns-3)

@@ -9,7 +9,8 @@ use Rattle.base.specs.Lists.{total, cut}
 use Rattle.base.proofs.Cuts.{total-turn}
 use Rattle.groups.specs.declared.Row.{Row}
 use Rattle.groups.specs.Rows.{rowsOf, emptyRows}
-use Rattle.door.proofs.Walk.{fits-here, faults, fine-further}
+use Rattle.base.proofs.Searches.{fits-here, faults, fine-here}
+use Rattle.door.specs.Checks.{groupFault}
 use Rattle.groups.proofs.Laid.{laying, row-turn, rows-done, rows-laid}
 use Rattle.groups.proofs.rows_of.Statement.{statement}
 use Rattle.groups.proofs.rows_of.Tie as tie
@@ -19,7 +20,7 @@ itself r = r
 
 abbrev Inv-loop : tie.InvT-loop
 Inv-loop readings sizes rows₀ at₀ g₀ rows at g =
-    (g ≤ length sizes) × (at + total (drop g sizes) ≡ length readings) × (length rows ≡ 16) × (faults readings sizes g at .number ≡ 0)
+    (g ≤ length sizes) × (at + total (drop g sizes) ≡ length readings) × (length rows ≡ 16) × (faults readings sizes g at groupFault .number ≡ 0)
     × (laying readings sizes g at itself rows ≡ rowsOf (cut sizes readings))
 
 abbrev μ-loop : tie.MeasureT-loop
@@ -90,7 +91,7 @@ loop-again c =
       omega arith,
       omega (arith, total-turn (a .sizes .now) (at .loop .g) h),
       simp length-set (omega arith),
-      fine-further (a .readings .now) (a .sizes .now) (at .loop .g) (at .loop .at) h (at .loop .inv .1) (p .sizes .readings) (at .loop .inv .3),
+      fine-here (a .readings .now) (a .sizes .now) (at .loop .g) (at .loop .at) groupFault h (at .loop .inv .3) .1,
       row-turn (a .readings .now) (a .sizes .now) (at .loop .g) (at .loop .at) h (at .loop .inv .1) (p .sizes .readings) (at .loop .inv .3) itself (at .loop .rows) (c .of .result) (c .of .ensures) ∙ at .loop .inv .4,
     )
 

@@ -3,7 +3,8 @@ use Prim.Native.Nat.{_-_}
 use native.Mathlib.Omega.{arith}
 use mathlib.Core.List.{[]}
 use native.Mathlib.Nat.{mul-one}
-use Rattle.margins.proofs.Places.{few-cells, laid, row-line, column-line}
+use Rattle.base.proofs.Places.{row-line, column-line}
+use Rattle.margins.proofs.Places.{few-cells, laid}
 use Rattle.margins.proofs.table.Statement.{statement}
 use Rattle.margins.proofs.table.Tie as tie
 
@@ -22,12 +23,12 @@ cell-means-requires c κs = (laid _ _ _ _ _ (c .before .before .before .before .
 margins-requires : tie.Need-margins-requires
 margins-requires c κs =
     let p = c .before .before .before .before .before .before .pre in
-    (laid _ _ _ _ _ (c .before .before .before .before .before .before .pre) (c .before .before .before .starts-of .ensures), (p .rows, (few-cells (c .before .before .before .before .before .before .args .counts .now) [] _ _ _ p, row-line (c .before .before .before .before .before .before .args .counts .now) [] _ _ _ p)))
+    (laid _ _ _ _ _ (c .before .before .before .before .before .before .pre) (c .before .before .before .starts-of .ensures), (p .rows, (few-cells (c .before .before .before .before .before .before .args .counts .now) [] _ _ _ p, row-line _ _)))
 
 margins-requires-2 : tie.Need-margins-requires-2
 margins-requires-2 c κs =
     let p = c .before .before .before .before .before .before .before .before .pre in
-    (laid _ _ _ _ _ (c .before .before .before .before .before .before .before .before .pre) (c .before .before .before .before .before .starts-of .ensures), (p .columns, (omega (arith, p .columns, mul-one (c .before .before .before .before .before .before .before .before .args .b)), column-line (c .before .before .before .before .before .before .before .before .args .counts .now) [] _ _ _ p)))
+    (laid _ _ _ _ _ (c .before .before .before .before .before .before .before .before .pre) (c .before .before .before .before .before .starts-of .ensures), (p .columns, (omega (arith, p .columns, mul-one (c .before .before .before .before .before .before .before .before .args .b)), column-line _ _)))
 
 ss-error-requires : tie.Need-ss-error-requires
 ss-error-requires c κs = laid _ _ _ _ _ (c .before .before .before .before .before .before .before .before .before .before .before .pre) (c .before .before .before .before .before .before .before .before .starts-of .ensures)

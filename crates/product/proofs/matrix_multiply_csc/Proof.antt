@@ -51,18 +51,17 @@ slice-aggregate-product-rows-2 c = search needs
 product-rows-requires-2 : tie.Need-product-rows-requires-2
 product-rows-requires-2 c κs = let a = first (c .before .before .before .before .before .before .before .before .before) in let b = third (c .before .before .before .before .before) in let h = product-le 11 12 (a .few-rows) (a .few-places) in (omega arith, (omega arith, (omega arith, (omega (arith, h), (omega arith, omega arith)))))
 
-mul-canon-places : tie.Need-mul-canon-places
-mul-canon-places c = let k = third (c .before .before .before .before .before .before .before .before .before) in omega arith
-
-canon-places-requires : tie.Need-canon-places-requires
-canon-places-requires c κs = let k = third (c .before .before .before .before .before .before .before .before .before) in omega arith
-
 same-length : tie.Need-same-length
 same-length c = search needs
 
 returns-4 : tie.Need-returns-4
 unfolding blank
-returns-4 c = csc-taken _ _ _ _ _ (c .before .before .before .before .before .before .before .before .before .before .before .before .before .before .before .before .before .refuses .ensures) (c .before .before .before .before .before .before .before .before .before .before .before .before .before .before .before .before .if1 .left) (c .before .before .before .before .before .before .before .before .before .before .before .before .before .before .before .refuses2 .ensures) (c .before .before .before .before .before .before .before .before .before .before .before .before .before .before .if2 .left) (c .before .before .before .before .before .before .before .before .before .before .before .before .before .refuses3 .ensures) (c .before .before .before .before .before .before .before .before .before .before .before .before .if3 .left) (c .before .before .before .before .before .before .before .before .before .before .product-rows .ensures) (c .before .before .before .before .before .before .product-rows2 .ensures) (c .before .before .canon-places .ensures)
+returns-4 c =
+    let made = c .before .before .before .before .before .before in
+    let three = made .before .before in
+    let two = three .before .before in
+    let one = two .before .before in
+    csc-taken _ _ _ _ _ (one .before .refuses .ensures) (one .if1 .left) (two .before .refuses2 .ensures) (two .if2 .left) (three .before .refuses3 .ensures) (three .if3 .left) (made .product-rows .ensures) (c .before .before .product-rows2 .ensures)
 
 pub matrix-multiply-csc-spec : {M : Type 1} → statement M
 matrix-multiply-csc-spec =
@@ -78,7 +77,5 @@ matrix-multiply-csc-spec =
     product-rows-requires
     slice-aggregate-product-rows-2
     product-rows-requires-2
-    mul-canon-places
-    canon-places-requires
     same-length
     returns-4)

@@ -22,8 +22,11 @@ returns-2 c =
     let r = c .before .before .before .two-way-anova in
     refused _ _ _ _ _ _ _ (r .ensures) (c .before .before .before .before .before .if1 .left) (c .if2 .taken)
 
-hand-out-requires : tie.Need-hand-out-requires
-hand-out-requires c κs = search needs
+slice-aggregate-put : tie.Need-slice-aggregate-put
+slice-aggregate-put c = search needs
+
+put-requires : tie.Need-put-requires
+put-requires c κs = search needs
 
 same-length-2 : tie.Need-same-length-2
 same-length-2 c = search needs
@@ -33,9 +36,9 @@ same-length-3 c = search needs
 
 returns-3 : tie.Need-returns-3
 returns-3 c =
-    let e = c .before .before .before .before in
+    let e = c .before .before .before .before .before in
     let r = e .before .before .before .two-way-anova in
-    accepted _ _ _ _ _ _ _ (r .ensures) _ (e .before .before .before .before .before .if1 .left) (e .if2 .left) (c .before .before .hand-out .ensures)
+    accepted _ _ _ _ _ _ _ (r .ensures) _ (e .before .before .before .before .before .if1 .left) (e .if2 .left) (c .before .before .put .ensures)
 
 pub rates-two-way-spec : {M : Type 1} → statement M
 rates-two-way-spec =
@@ -45,7 +48,8 @@ rates-two-way-spec =
     two-way-anova-requires
     same-length
     returns-2
-    hand-out-requires
+    slice-aggregate-put
+    put-requires
     same-length-2
     same-length-3
     returns-3)

@@ -33,8 +33,9 @@ same-length c = search needs
 returns : tie.Need-returns
 returns c =
     let first = c .before .before .before .before .before .before .before in
-    let a = first .before .before .before .before .args in
-    laid-both (a .t2) (a .t3) (a .out .now) _ _ 9 (search needs) (first .put .ensures) (c .before .before .put2 .ensures)
+    let start = first .before .before .before .before in
+    let a = start .args in
+    laid-both (a .t2) (a .t3) (a .out .now) _ _ 9 (search needs) (omega (arith, start .pre)) (first .put .ensures) (c .before .before .put2 .ensures)
 
 pub hand-out-spec : {M : Type 1} → statement M
 hand-out-spec =

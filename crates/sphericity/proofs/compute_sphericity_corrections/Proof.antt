@@ -1,40 +1,49 @@
 -- `sphericity::compute_sphericity_corrections` meets its contract.
 use Prim.Native.Nat.{_-_}
-use mathlib.Core.Path.{sym, _∙_}
+use mathlib.Core.Path.{_∙_}
 use borrow.Author.Needs.{needs}
-use Rattle.sphericity.specs.Corrections.{computeSphericityCorrections}
-use Rattle.base.proofs.Bounds.{then-of, else-of}
-use Rattle.sphericity.proofs.Fitted.{taken}
+use Rattle.eigen.specs.Values.{zeros}
+use Rattle.sphericity.specs.Corrections.{csc}
+use Rattle.sphericity.proofs.Fitted.{two-conditions, not-taken, sizes-taken, known}
 use Rattle.sphericity.proofs.compute_sphericity_corrections.Statement.{statement}
 use Rattle.sphericity.proofs.compute_sphericity_corrections.Tie as tie
-
-fits-requires : tie.Need-fits-requires
-fits-requires c κs = search needs
-
-csc-requires : tie.Need-csc-requires
-csc-requires c κs = search needs
-
-corrections-of-requires : tie.Need-corrections-of-requires
-corrections-of-requires c κs = taken _ _ _ _ (sym (c .before .before .fits2 .ensures) ∙ c .before .if1 .taken)
-
-returns : tie.Need-returns
-unfolding computeSphericityCorrections
-returns c = then-of _ _ _ (sym (c .before .before .before .fits2 .ensures) ∙ c .before .before .if1 .taken) (rw (c .corrections-of .ensures, c .before .csc .ensures))
 
 no-corrections-requires : tie.Need-no-corrections-requires
 no-corrections-requires c κs = search needs
 
+returns : tie.Need-returns
+returns c = c .no-corrections .ensures ∙ two-conditions _ _ _ _ _ _ _ (c .before .if1 .taken)
+
+slice-aggregate-contrast-covariance : tie.Need-slice-aggregate-contrast-covariance
+slice-aggregate-contrast-covariance c = search needs
+
+contrast-covariance-requires : tie.Need-contrast-covariance-requires
+contrast-covariance-requires c κs = search needs
+
+corrections-of-requires : tie.Need-corrections-of-requires
+unfolding csc zeros
+corrections-of-requires c κs = known _ _ _ _ (c .before .before .before .before .if1 .left) (c .before .before .contrast-covariance .ensures) (c .if2 .taken)
+
 returns-2 : tie.Need-returns-2
-unfolding computeSphericityCorrections
-returns-2 c = else-of _ _ _ (sym (c .before .before .fits2 .ensures) ∙ c .before .if1 .left) (c .no-corrections .ensures)
+unfolding csc zeros
+returns-2 c = sizes-taken _ _ _ _ _ _ _ (c .before .before .before .before .before .if1 .left) (c .before .before .before .contrast-covariance .ensures) (c .before .if2 .taken) (c .corrections-of .ensures)
+
+no-corrections-requires-2 : tie.Need-no-corrections-requires-2
+no-corrections-requires-2 c κs = search needs
+
+returns-3 : tie.Need-returns-3
+unfolding csc zeros
+returns-3 c = c .no-corrections2 .ensures ∙ not-taken _ _ _ _ _ _ _ (c .before .before .before .before .before .if1 .left) (c .before .before .before .contrast-covariance .ensures) (c .before .if2 .left)
 
 pub compute-sphericity-corrections-spec : {M : Type 1} → statement M
 compute-sphericity-corrections-spec =
     tie.close
     (tie.spec
-    fits-requires
-    csc-requires
-    corrections-of-requires
-    returns
     no-corrections-requires
-    returns-2)
+    returns
+    slice-aggregate-contrast-covariance
+    contrast-covariance-requires
+    corrections-of-requires
+    returns-2
+    no-corrections-requires-2
+    returns-3)

@@ -7,13 +7,14 @@ use lib.ListN.{length}
 use lib.ListN.{drop, getD}
 use Rattle.base.specs.Lists.{total, cut}
 use Rattle.base.proofs.Cuts.{total-turn}
-use Rattle.subjects.specs.Checks.{subjectsRefusal}
-use Rattle.subjects.proofs.Walk.{fits-here, no-nan-here, faults, fault-here, fault-further, fault-nowhere}
+use Rattle.subjects.specs.Checks.{subjectFault, subjectsRefusal}
+use Rattle.base.proofs.Searches.{fits-here, faults, part-here, part-further, part-nowhere}
+use Rattle.stats.proofs.Adding.{no-nan-here}
 use Rattle.subjects.proofs.subjects_refusal.Statement.{statement}
 use Rattle.subjects.proofs.subjects_refusal.Tie as tie
 
 abbrev Inv-loop : tie.InvT-loop
-Inv-loop readings sizes k nans at₀ i₀ at i = (i ≤ length sizes) × (at + total (drop i sizes) ≡ length readings) × (faults readings sizes k i at ≡ subjectsRefusal k 1 (cut sizes readings))
+Inv-loop readings sizes k nans at₀ i₀ at i = (i ≤ length sizes) × (at + total (drop i sizes) ≡ length readings) × (faults readings sizes i at (subjectFault k) ≡ subjectsRefusal k 1 (cut sizes readings))
 
 abbrev μ-loop : tie.MeasureT-loop
 μ-loop readings sizes k nans at₀ i₀ at i = length sizes - i
@@ -23,7 +24,7 @@ ends : (c : tie.In-loop Inv-loop μ-loop) → c .before .loop .at + getD (c .bef
 ends c =
     let at = c .before in
     let a = at .before .before .before .before .args in
-    fits-here (a .readings .now) (a .sizes .now) (a .k) (at .loop .i) (at .loop .at) (c .loop-test .taken) (at .loop .inv .1)
+    fits-here (a .readings .now) (a .sizes .now) (at .loop .i) (at .loop .at) (c .loop-test .taken) (at .loop .inv .1)
 
 has-nan-requires : tie.Need-has-nan-requires Inv-loop μ-loop
 has-nan-requires c κs = search needs
@@ -62,14 +63,14 @@ subject-fault-requires : tie.Need-subject-fault-requires Inv-loop μ-loop
 subject-fault-requires c κs =
     let at = c .before .before .before in
     let a = at .before .before .before .before .args in
-    λ e. no-nan-here (a .readings .now) (a .sizes .now) (a .k) (at .loop .i) (at .loop .at) (sym (at .before .has-nan .ensures) ∙ e)
+    λ e. no-nan-here (a .readings .now) (a .sizes .now) (at .loop .i) (at .loop .at) (sym (at .before .has-nan .ensures) ∙ e)
 
 returns : tie.Need-returns Inv-loop μ-loop
 returns c =
     let at = c .before .before .before .before .before .before in
     let a = at .before .before .before .before .args in
     let h = c .before .before .before .before .before .loop-test .taken in
-    fault-here (a .readings .now) (a .sizes .now) (a .k) (at .loop .i) (at .loop .at) h _ (c .before .before .subject-fault .ensures) (c .if1 .taken) ∙ at .loop .inv .2
+    part-here (a .readings .now) (a .sizes .now) (at .loop .i) (at .loop .at) (subjectFault (a .k)) h _ (c .before .before .subject-fault .ensures) (c .if1 .taken) ∙ at .loop .inv .2
 
 add-i : tie.Need-add-i Inv-loop μ-loop
 add-i c = omega arith
@@ -84,7 +85,7 @@ loop-again c =
     let h = c .before .before .before .before .before .loop-test .taken in (
       omega arith,
       omega (arith, total-turn (a .sizes .now) (at .loop .i) h),
-      fault-further (a .readings .now) (a .sizes .now) (a .k) (at .loop .i) (at .loop .at) h _ (c .before .before .subject-fault .ensures) (c .if1 .left) ∙ at .loop .inv .2,
+      part-further (a .readings .now) (a .sizes .now) (at .loop .i) (at .loop .at) (subjectFault (a .k)) h _ (c .before .before .subject-fault .ensures) (c .if1 .left) ∙ at .loop .inv .2,
     )
 
 none-requires : tie.Need-none-requires Inv-loop μ-loop
@@ -94,7 +95,7 @@ returns-2 : tie.Need-returns-2 Inv-loop μ-loop
 returns-2 c =
     let at = c .before .before in
     let a = at .before .before .before .before .args in
-    c .none .ensures ∙ fault-nowhere (a .readings .now) (a .sizes .now) (a .k) (at .loop .i) (at .loop .at) (c .before .loop-test .left) ∙ at .loop .inv .2
+    c .none .ensures ∙ part-nowhere (a .readings .now) (a .sizes .now) (at .loop .i) (at .loop .at) (subjectFault (a .k)) (c .before .loop-test .left) ∙ at .loop .inv .2
 
 pub subjects-refusal-spec : {M : Type 1} → statement M
 subjects-refusal-spec =

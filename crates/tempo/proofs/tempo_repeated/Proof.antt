@@ -19,17 +19,20 @@ returns-2 c =
     let r = c .before .repeated-measures-anova in
     refused _ _ _ _ _ (r .ensures) (c .before .before .if1 .left) (c .if2 .taken)
 
-hand-out-requires : tie.Need-hand-out-requires
-hand-out-requires c κs = search needs
+slice-aggregate-put : tie.Need-slice-aggregate-put
+slice-aggregate-put c = search needs
+
+put-requires : tie.Need-put-requires
+put-requires c κs = search needs
 
 same-length : tie.Need-same-length
 same-length c = search needs
 
 returns-3 : tie.Need-returns-3
 returns-3 c =
-    let e = c .before .before .before .before in
+    let e = c .before .before .before .before .before in
     let r = e .before .repeated-measures-anova in
-    accepted _ _ _ _ _ (r .ensures) _ (e .before .before .if1 .left) (e .if2 .left) (c .before .before .hand-out .ensures)
+    accepted _ _ _ _ _ (r .ensures) _ (e .before .before .if1 .left) (e .if2 .left) (c .before .before .put .ensures)
 
 pub tempo-repeated-spec : {M : Type 1} → statement M
 tempo-repeated-spec =
@@ -38,6 +41,7 @@ tempo-repeated-spec =
     returns
     repeated-measures-anova-requires
     returns-2
-    hand-out-requires
+    slice-aggregate-put
+    put-requires
     same-length
     returns-3)

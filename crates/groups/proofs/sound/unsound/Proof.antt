@@ -1,20 +1,17 @@
 -- `groups::sound::unsound` meets its contract.
-use Prim.Native.Nat.{ℕ, _≤_, _-_, _+_, _*_}
+use Prim.Native.Nat.{_≤_, _-_, _+_, _*_}
 use mathlib.Core.Path.{_≡_, refl, sym, _∙_}
 use mathlib.Core.Bool.{or-true}
 use native.Mathlib.Nat.{zero-add}
 use native.Mathlib.Omega.{arith}
 use borrow.Author.Needs.{needs}
 use borrow.Author.Tests.{lt-ltb, le-ltb}
-use lib.ListN.{length, drop}
+use lib.ListN.{drop}
 use Rattle.base.specs.Lists.{total}
 use Rattle.groups.specs.Soundness.{sizesIn, someOutside, unsound}
 use Rattle.groups.proofs.Counted.{not-outside, size-turn, size-done, outside-here, outside-further, size-small, outside-nowhere}
 use Rattle.groups.proofs.sound.unsound.Statement.{statement}
 use Rattle.groups.proofs.sound.unsound.Tie as tie
-use Rattle.groups.proofs.sound.unsound.Reads as reads
-use Rattle.groups.proofs.sound.unsound.Lts as lts
-use Rattle.groups.proofs.sound.size_outside.Reads as size_outside-reads
 
 abbrev Inv-loop : tie.InvT-loop
 Inv-loop k rows sum₀ g₀ sum g =

@@ -7,7 +7,8 @@ use lib.ListN.{length, length-set}
 use lib.ListN.{drop, getD}
 use Rattle.base.specs.Lists.{total, cut, over}
 use Rattle.base.proofs.Cuts.{total-turn}
-use Rattle.door.proofs.Walk.{fits-here, faults, fine-further}
+use Rattle.base.proofs.Searches.{fits-here, faults, fine-here}
+use Rattle.door.specs.Checks.{groupFault}
 use Rattle.groups.proofs.Laid.{laying, row-turn, rows-done, rows-laid}
 use Rattle.oneway.specs.Summary.{sizeOf, rowMean, rowSqDev}
 use Rattle.results.specs.Results.{noSizes, noMeans}
@@ -17,7 +18,7 @@ use Rattle.oneway.proofs.summary.summarize.Tie as tie
 
 abbrev Inv-loop : tie.InvT-loop
 Inv-loop readings sizes group-sizes₀ group-means₀ sq-devs₀ at₀ g₀ group-sizes group-means sq-devs at g =
-    (g ≤ length sizes) × (at + total (drop g sizes) ≡ length readings) × (faults readings sizes g at .number ≡ 0)
+    (g ≤ length sizes) × (at + total (drop g sizes) ≡ length readings) × (faults readings sizes g at groupFault .number ≡ 0)
     × (length group-sizes ≡ 16) × (length group-means ≡ 16) × (length sq-devs ≡ 16)
     × (laying readings sizes g at sizeOf group-sizes ≡ over (column sizeOf (cut sizes readings)) noSizes)
     × (laying readings sizes g at rowMean group-means ≡ over (column rowMean (cut sizes readings)) noMeans)
@@ -107,7 +108,7 @@ loop-again c =
     let fine = at .loop .inv .2 in (
       omega arith,
       omega (arith, total-turn ns g h),
-      fine-further xs ns g i h room small fine,
+      fine-here xs ns g i groupFault h fine .1,
       simp length-set (omega arith),
       simp length-set (omega arith),
       simp length-set (omega arith),

@@ -53,14 +53,17 @@ mul-group-sizes-2 c = omega arith
 array-write-group-sizes : tie.Need-array-write-group-sizes Inv-loop μ-loop
 array-write-group-sizes c = omega arith
 
+mul-canon : tie.Need-mul-canon Inv-loop μ-loop
+mul-canon c = omega arith
+
+element-copy-out-canon : tie.Need-element-copy-out-canon Inv-loop μ-loop
+element-copy-out-canon c = omega arith
+
+canon-requires : tie.Need-canon-requires Inv-loop μ-loop
+canon-requires c κs = search needs
+
 mul-group-means : tie.Need-mul-group-means Inv-loop μ-loop
 mul-group-means c = omega arith
-
-element-copy-out-group-means : tie.Need-element-copy-out-group-means Inv-loop μ-loop
-element-copy-out-group-means c = omega arith
-
-mul-group-means-2 : tie.Need-mul-group-means-2 Inv-loop μ-loop
-mul-group-means-2 c = omega arith
 
 array-write-group-means : tie.Need-array-write-group-means Inv-loop μ-loop
 array-write-group-means c = omega arith
@@ -85,16 +88,16 @@ loop-less c = omega arith
 
 loop-again : tie.Need-loop-again Inv-loop μ-loop
 loop-again c =
-    let at = c .before in
+    let at = c .before .before in
     let a = at .before .args in
-    let h = c .loop-test .taken in (
+    let h = c .before .loop-test .taken in (
       omega arith,
       omega (arith, size-turn (a .k) (a .t1) (at .loop .g) (search needs) h),
       simp length-set (omega arith),
       simp length-set (omega arith),
       simp length-set (omega arith),
       fill-step-of sizeOf (a .k) (a .t1) (search needs) unread (at .loop .group-sizes) (at .loop .g) _ (at .loop .inv .5) h refl,
-      fill-step-of rowMean (a .k) (a .t1) (search needs) unread (at .loop .group-means) (at .loop .g) _ (at .loop .inv .6) h refl,
+      fill-step-of rowMean (a .k) (a .t1) (search needs) unread (at .loop .group-means) (at .loop .g) _ (at .loop .inv .6) h (c .canon .ensures),
       fill-step-of rowSqDev (a .k) (a .t1) (search needs) unread (at .loop .sq-devs) (at .loop .g) _ (at .loop .inv .7) h refl,
     )
 
@@ -121,9 +124,10 @@ summarize-rows-spec =
     element-copy-out-group-sizes
     mul-group-sizes-2
     array-write-group-sizes
+    mul-canon
+    element-copy-out-canon
+    canon-requires
     mul-group-means
-    element-copy-out-group-means
-    mul-group-means-2
     array-write-group-means
     mul-sq-devs
     element-copy-out-sq-devs

@@ -1,19 +1,10 @@
 -- `oneway::welch::welch_anova` meets its contract.
-use Prim.Native.Nat.{ℕ, _≤_, _<_, _-_, _+_, _*_}
-use mathlib.Core.Path.{_≡_, refl, sym, _∙_, ap}
-use native.Mathlib.Omega.{arith}
+use Prim.Native.Nat.{_-_}
 use borrow.Author.Needs.{needs}
-use lib.ListN.{length, length-set}
 use Rattle.oneway.proofs.Summaries.{long-with, weighed-lines}
 use Rattle.oneway.specs.Welch.{welchAnova}
 use Rattle.oneway.proofs.welch.welch_anova.Statement.{statement}
 use Rattle.oneway.proofs.welch.welch_anova.Tie as tie
-use Rattle.oneway.proofs.welch.welch_anova.Reads as reads
-use Rattle.oneway.proofs.welch.welch_anova.Lts as lts
-use Rattle.base.proofs.Refusal.none.Reads as none-reads
-use Rattle.oneway.proofs.welch.weights.Reads as weights-reads
-use Rattle.oneway.proofs.welch.welch_sums.Reads as welch-sums-reads
-use Rattle.oneway.proofs.welch.welch_test.Reads as welch-test-reads
 
 weights-requires : tie.Need-weights-requires
 weights-requires c κs = search needs

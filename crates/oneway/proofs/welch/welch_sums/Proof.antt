@@ -1,14 +1,8 @@
 -- `oneway::welch::welch_sums` meets its contract.
-use Prim.Native.Nat.{ℕ, _≤_, _<_, _-_, _+_, _*_}
-use mathlib.Core.Path.{_≡_, refl, sym, _∙_, ap}
-use native.Mathlib.Omega.{arith}
+use Prim.Native.Nat.{_-_}
 use borrow.Author.Needs.{needs}
-use lib.ListN.{length, length-set}
 use Rattle.oneway.proofs.welch.welch_sums.Statement.{statement}
 use Rattle.oneway.proofs.welch.welch_sums.Tie as tie
-use Rattle.oneway.proofs.welch.welch_sums.Reads as reads
-use Rattle.oneway.proofs.welch.welch_sums.Lts as lts
-use Rattle.oneway.proofs.welch.sum_weighed.Reads as sum-weighed-reads
 
 sum-weighed-requires : tie.Need-sum-weighed-requires
 sum-weighed-requires c κs = search needs

@@ -1,16 +1,10 @@
 -- `oneway::welch::welch_test` meets its contract.
-use Prim.Native.Nat.{ℕ, _≤_, _<_, _-_, _+_, _*_}
-use mathlib.Core.Path.{_≡_, refl, sym, _∙_, ap}
+use Prim.Native.Nat.{_-_}
 use native.Mathlib.Omega.{arith}
 use borrow.Author.Needs.{needs}
-use lib.ListN.{length, length-set}
 use Rattle.base.proofs.Bounds.{product-le}
 use Rattle.oneway.proofs.welch.welch_test.Statement.{statement}
 use Rattle.oneway.proofs.welch.welch_test.Tie as tie
-use Rattle.oneway.proofs.welch.welch_test.Reads as reads
-use Rattle.oneway.proofs.welch.welch_test.Lts as lts
-use Rattle.base.proofs.minus.Reads as minus-reads
-use Rattle.float.proofs.canon.Reads as canon-reads
 
 minus-requires : tie.Need-minus-requires
 minus-requires c κs = search needs

@@ -1,19 +1,11 @@
 -- `sheet::Sheet::load` meets its contract.
-use Prim.Native.Nat.{ℕ, _≤_, _<_, _-_, _+_, _*_}
-use mathlib.Core.Path.{_≡_, refl, sym, _∙_, ap}
-use native.Mathlib.Omega.{arith}
+use Prim.Native.Nat.{_-_}
 use borrow.Author.Needs.{needs}
-use lib.ListN.{length, length-set}
 use lib.Ieee.{ofBits}
 use Rattle.sheet.specs.Sheets.{zeroPlaces}
 use Rattle.sheet.proofs.Loaded.{load-refused, load-fits, load-made}
 use Rattle.sheet.proofs.Sheet.load.Statement.{statement}
 use Rattle.sheet.proofs.Sheet.load.Tie as tie
-use Rattle.sheet.proofs.Sheet.load.Reads as reads
-use Rattle.sheet.proofs.Sheet.load.Lts as lts
-use Rattle.base.proofs.Refusal.none.Reads as none-reads
-use Rattle.groups.proofs.validate_anova_groups.Reads as validate-anova-groups-reads
-use Rattle.sheet.proofs.places.lay.Reads as lay-reads
 
 validate-anova-groups-requires : tie.Need-validate-anova-groups-requires
 validate-anova-groups-requires c κs = search needs

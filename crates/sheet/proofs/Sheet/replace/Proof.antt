@@ -1,6 +1,6 @@
 -- `sheet::Sheet::replace` meets its contract.
-use Prim.Native.Nat.{ℕ, _≤_, _<_, _-_, _+_, _*_}
-use mathlib.Core.Path.{_≡_, refl, sym, _∙_, ap}
+use Prim.Native.Nat.{_≤_, _<_, _-_, _+_}
+use mathlib.Core.Path.{_≡_, refl}
 use native.Mathlib.Omega.{arith}
 use borrow.Author.Needs.{needs}
 use lib.ListN.{length, length-set}
@@ -13,12 +13,6 @@ use Rattle.sheet.proofs.Found.{Found, small-ahead}
 use Rattle.sheet.proofs.Made.{replace-found, replace-made}
 use Rattle.sheet.proofs.Sheet.replace.Statement.{statement}
 use Rattle.sheet.proofs.Sheet.replace.Tie as tie
-use Rattle.sheet.proofs.Sheet.replace.Reads as reads
-use Rattle.sheet.proofs.Sheet.replace.Lts as lts
-use Rattle.base.proofs.Refusal.none.Reads as none-reads
-use Rattle.groups.proofs.Row.of.Reads as of-reads
-use Rattle.sheet.proofs.checks.ahead.Reads as ahead-reads
-use Rattle.sheet.proofs.checks.replace_refusal.Reads as replace-refusal-reads
 
 -- the arrays have their lengths
 places : (c : tie.Start) → length (c .args .self .places) ≡ 512

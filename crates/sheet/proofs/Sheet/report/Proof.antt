@@ -1,19 +1,14 @@
 -- `sheet::Sheet::report` meets its contract.
-use Prim.Native.Nat.{ℕ, _≤_, _<_, _-_, _+_, _*_}
-use mathlib.Core.Path.{_≡_, refl, sym, _∙_, ap}
-use native.Mathlib.Omega.{arith}
+use Prim.Native.Nat.{_-_}
+use mathlib.Core.Path.{_≡_, sym}
 use borrow.Author.Needs.{needs}
-use lib.ListN.{length, length-set}
+use lib.ListN.{length}
 use lib.Seq.{length-take-le}
 use lib.ListN.{length-map}
 use Rattle.sheet.specs.declared.Sheet.{Sheet}
 use Rattle.sheet.proofs.Loaded.{report-fits, report-made}
 use Rattle.sheet.proofs.Sheet.report.Statement.{statement}
 use Rattle.sheet.proofs.Sheet.report.Tie as tie
-use Rattle.sheet.proofs.Sheet.report.Reads as reads
-use Rattle.sheet.proofs.Sheet.report.Lts as lts
-use Rattle.oneway.proofs.report.Reads as report-reads
-use Rattle.sheet.proofs.checks.used.Reads as used-reads
 
 places : (c : tie.Start) → length (c .args .self .places) ≡ 512
 places c = rw length-map at (c .good .0 .1 .1 .0 .1 .0 .1)

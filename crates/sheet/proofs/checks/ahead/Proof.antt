@@ -1,9 +1,8 @@
 -- `sheet::checks::ahead` meets its contract.
-use Prim.Native.Nat.{ℕ, _≤_, _<_, _-_, _+_, _*_}
-use mathlib.Core.Path.{_≡_, refl, sym, _∙_, ap}
+use Prim.Native.Nat.{_≤_, _-_, _+_}
+use mathlib.Core.Path.{_≡_}
 use native.Mathlib.Omega.{arith}
 use borrow.Author.Needs.{needs}
-use lib.ListN.{length, length-set}
 use lib.ListN.{drop}
 use native.Mathlib.Nat.{zero-add}
 use Rattle.base.specs.Lists.{total}
@@ -11,8 +10,6 @@ use Rattle.groups.specs.Soundness.{sizesIn}
 use Rattle.groups.proofs.Counted.{size-turn, size-done}
 use Rattle.sheet.proofs.checks.ahead.Statement.{statement}
 use Rattle.sheet.proofs.checks.ahead.Tie as tie
-use Rattle.sheet.proofs.checks.ahead.Reads as reads
-use Rattle.sheet.proofs.checks.ahead.Lts as lts
 
 abbrev Inv-loop : tie.InvT-loop
 Inv-loop n rows t₀ g₀ t g = (g ≤ n) × (t + total (drop g (sizesIn n rows)) ≡ total (sizesIn n rows))

@@ -1,21 +1,13 @@
 -- `sheet::checks::append_refusal` meets its contract.
-use Prim.Native.Nat.{ℕ, _≤_, _<_, _-_, _+_, _*_}
-use mathlib.Core.Path.{_≡_, refl, sym, _∙_, ap}
+use Prim.Native.Nat.{_-_}
 use native.Mathlib.Omega.{arith}
 use borrow.Author.Needs.{needs}
-use lib.ListN.{length, length-set}
 use borrow.Author.Tests.{le-leb, lt-leb}
 use Rattle.sheet.proofs.Found.{small-ahead}
 use Rattle.sheet.specs.Calls.{Replace}
 use Rattle.sheet.proofs.Judged.{append-stops, append-goes-on, asked}
 use Rattle.sheet.proofs.checks.append_refusal.Statement.{statement}
 use Rattle.sheet.proofs.checks.append_refusal.Tie as tie
-use Rattle.sheet.proofs.checks.append_refusal.Reads as reads
-use Rattle.sheet.proofs.checks.append_refusal.Lts as lts
-use Rattle.base.proofs.Refusal.new.Reads as new-reads
-use Rattle.base.proofs.Refusal.none.Reads as none-reads
-use Rattle.sheet.proofs.checks.ahead.Reads as ahead-reads
-use Rattle.sheet.proofs.checks.replace_refusal.Reads as replace-refusal-reads
 
 replace-refusal-requires : tie.Need-replace-refusal-requires
 replace-refusal-requires c κs = search needs

@@ -1,20 +1,14 @@
 -- `sheet::checks::place_refusal` meets its contract.
-use Prim.Native.Nat.{ℕ, _≤_, _<_, _-_, _+_, _*_}
-use mathlib.Core.Path.{_≡_, refl, sym, _∙_, ap}
+use Prim.Native.Nat.{_-_}
+use mathlib.Core.Path.{_∙_}
 use native.Mathlib.Omega.{arith}
 use borrow.Author.Needs.{needs}
-use lib.ListN.{length, length-set}
 use Rattle.base.proofs.Order.{stops, goes-on}
 use Rattle.groups.specs.Soundness.{Sound}
 use Rattle.groups.proofs.Counted.{sound}
 use Rattle.sheet.proofs.Judged.{no-group, no-place, has-place, in-range}
 use Rattle.sheet.proofs.checks.place_refusal.Statement.{statement}
 use Rattle.sheet.proofs.checks.place_refusal.Tie as tie
-use Rattle.sheet.proofs.checks.place_refusal.Reads as reads
-use Rattle.sheet.proofs.checks.place_refusal.Lts as lts
-use Rattle.base.proofs.Refusal.new.Reads as new-reads
-use Rattle.base.proofs.Refusal.none.Reads as none-reads
-use Rattle.groups.proofs.sound.rows_refusal.Reads as rows-refusal-reads
 
 -- what the first check leaves known
 fine : (c : tie.Else1) → (let a = c .before .before .before .args in Sound (a .k) (a .t1))

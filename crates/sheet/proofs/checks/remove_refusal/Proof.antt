@@ -1,19 +1,12 @@
 -- `sheet::checks::remove_refusal` meets its contract.
-use Prim.Native.Nat.{ℕ, _≤_, _<_, _-_, _+_, _*_}
-use mathlib.Core.Path.{_≡_, refl, sym, _∙_, ap}
+use Prim.Native.Nat.{_-_}
 use native.Mathlib.Omega.{arith}
 use borrow.Author.Needs.{needs}
-use lib.ListN.{length, length-set}
 use borrow.Author.Tests.{le-leb, lt-leb}
 use Rattle.groups.proofs.Counted.{size-at}
 use Rattle.sheet.proofs.Judged.{Open, remove-stops, remove-goes-on, opened-first}
 use Rattle.sheet.proofs.checks.remove_refusal.Statement.{statement}
 use Rattle.sheet.proofs.checks.remove_refusal.Tie as tie
-use Rattle.sheet.proofs.checks.remove_refusal.Reads as reads
-use Rattle.sheet.proofs.checks.remove_refusal.Lts as lts
-use Rattle.base.proofs.Refusal.new.Reads as new-reads
-use Rattle.base.proofs.Refusal.none.Reads as none-reads
-use Rattle.sheet.proofs.checks.place_refusal.Reads as place-refusal-reads
 
 -- what the first checks leave known
 known : (c : tie.Else1) → (let a = c .before .before .before .args in Open (a .k) (a .t1) (a .group) (a .place))

@@ -1,18 +1,12 @@
 -- `sheet::checks::replace_refusal` meets its contract.
-use Prim.Native.Nat.{ℕ, _≤_, _<_, _-_, _+_, _*_}
-use mathlib.Core.Path.{_≡_, refl, sym, _∙_, ap}
+use Prim.Native.Nat.{_-_}
+use mathlib.Core.Path.{sym, _∙_}
 use native.Mathlib.Omega.{arith}
 use borrow.Author.Needs.{needs}
-use lib.ListN.{length, length-set}
 use Rattle.float.proofs.Nans.{ne-self}
 use Rattle.sheet.proofs.Judged.{replace-stops, replace-goes-on, opened-first}
 use Rattle.sheet.proofs.checks.replace_refusal.Statement.{statement}
 use Rattle.sheet.proofs.checks.replace_refusal.Tie as tie
-use Rattle.sheet.proofs.checks.replace_refusal.Reads as reads
-use Rattle.sheet.proofs.checks.replace_refusal.Lts as lts
-use Rattle.base.proofs.Refusal.new.Reads as new-reads
-use Rattle.base.proofs.Refusal.none.Reads as none-reads
-use Rattle.sheet.proofs.checks.place_refusal.Reads as place-refusal-reads
 
 place-refusal-requires : tie.Need-place-refusal-requires
 place-refusal-requires c κs = search needs

@@ -1,18 +1,12 @@
 -- `sheet::checks::used` meets its contract.
-use Prim.Native.Nat.{ℕ, _≤_, _<_, _-_, _+_, _*_}
-use mathlib.Core.Path.{_≡_, refl, sym, _∙_, ap}
-use native.Mathlib.Omega.{arith}
+use Prim.Native.Nat.{_-_}
+use mathlib.Core.Path.{refl}
 use borrow.Author.Needs.{needs}
-use lib.ListN.{length, length-set}
 use Rattle.base.proofs.Order.{answers-refused, answers-numbers}
 use Rattle.oneway.proofs.Summaries.{small-sound}
 use Rattle.sheet.specs.Calls.{usedIn}
 use Rattle.sheet.proofs.checks.used.Statement.{statement}
 use Rattle.sheet.proofs.checks.used.Tie as tie
-use Rattle.sheet.proofs.checks.used.Reads as reads
-use Rattle.sheet.proofs.checks.used.Lts as lts
-use Rattle.groups.proofs.sound.rows_refusal.Reads as rows-refusal-reads
-use Rattle.sheet.proofs.checks.ahead.Reads as ahead-reads
 
 rows-refusal-requires : tie.Need-rows-refusal-requires
 rows-refusal-requires c κs = search needs

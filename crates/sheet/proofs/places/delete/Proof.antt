@@ -1,16 +1,13 @@
 -- `sheet::places::delete` meets its contract.
-use Prim.Native.Nat.{ℕ, _≤_, _<_, _-_, _+_, _*_}
-use mathlib.Core.Path.{_≡_, refl, sym, _∙_, ap}
+use Prim.Native.Nat.{_<_, _-_}
+use mathlib.Core.Path.{_≡_, refl}
 use native.Mathlib.Omega.{arith}
-use borrow.Author.Needs.{needs}
 use lib.ListN.{length, length-set}
 use lib.Ieee.{nan, ofBits}
 use Rattle.sheet.specs.Moved.{deleted}
 use Rattle.sheet.proofs.Moves.{delete-step, delete-ends}
 use Rattle.sheet.proofs.places.delete.Statement.{statement}
 use Rattle.sheet.proofs.places.delete.Tie as tie
-use Rattle.sheet.proofs.places.delete.Reads as reads
-use Rattle.sheet.proofs.places.delete.Lts as lts
 
 abbrev Inv-loop : tie.InvT-loop
 Inv-loop places₀ at end i₀ places i = (i < end) × (length places ≡ length places₀) × (deleted i end places ≡ deleted at end places₀)

@@ -1,16 +1,13 @@
 -- `sheet::places::insert` meets its contract.
-use Prim.Native.Nat.{ℕ, _≤_, _<_, _-_, _+_, _*_}
-use mathlib.Core.Path.{_≡_, refl, sym, _∙_, ap}
+use Prim.Native.Nat.{_≤_, _-_, _+_}
+use mathlib.Core.Path.{_≡_, refl}
 use native.Mathlib.Omega.{arith}
-use borrow.Author.Needs.{needs}
 use lib.ListN.{length, length-set}
 use lib.Ieee.{nan}
 use Rattle.sheet.specs.Moved.{inserted}
 use Rattle.sheet.proofs.Moves.{insert-step, insert-ends}
 use Rattle.sheet.proofs.places.insert.Statement.{statement}
 use Rattle.sheet.proofs.places.insert.Tie as tie
-use Rattle.sheet.proofs.places.insert.Reads as reads
-use Rattle.sheet.proofs.places.insert.Lts as lts
 
 abbrev Inv-loop : tie.InvT-loop
 Inv-loop places₀ at end x held₀ i₀ places held i = (i ≤ end + 1) × (length places ≡ length places₀) × (inserted i end held places ≡ inserted at end x places₀)

@@ -1,18 +1,15 @@
 -- `sheet::places::lay` meets its contract.
-use Prim.Native.Nat.{ℕ, _≤_, _<_, _-_, _+_, _*_}
-use mathlib.Core.Path.{_≡_, refl, sym, _∙_, ap}
+use Prim.Native.Nat.{_≤_, _-_}
+use mathlib.Core.Path.{_≡_, refl, _∙_}
 use native.Mathlib.Omega.{arith}
-use borrow.Author.Needs.{needs}
 use lib.ListN.{length, length-set}
-use lib.Ieee.{Float, nan}
+use lib.Ieee.{nan}
 use mathlib.Core.List.{map-id}
 use Rattle.base.specs.Lists.{over}
 use Rattle.base.proofs.Fills.{fill, fill-starts, fill-step, fill-ends}
 use Rattle.stats.specs.Sums.{itself}
 use Rattle.sheet.proofs.places.lay.Statement.{statement}
 use Rattle.sheet.proofs.places.lay.Tie as tie
-use Rattle.sheet.proofs.places.lay.Reads as reads
-use Rattle.sheet.proofs.places.lay.Lts as lts
 
 abbrev Inv-loop : tie.InvT-loop
 Inv-loop places₀ readings i₀ places i = (i ≤ length readings) × (length places ≡ length places₀) × (fill itself readings places i ≡ over readings places₀)

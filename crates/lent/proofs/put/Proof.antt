@@ -1,25 +1,32 @@
--- `speed::put` meets its contract.
+-- `lent::put` meets its contract.
 use Prim.Native.Nat.{_≤_, _-_}
-use mathlib.Core.Path.{_≡_, refl}
+use mathlib.Core.Path.{_≡_, refl, sym, _∙_}
 use mathlib.Core.List.{map, map-id}
 use native.Mathlib.Omega.{arith}
 use borrow.Author.Needs.{needs}
 use lib.ListN.{length, length-set}
-use lib.Ieee.{nan}
+use lib.Ieee.{Float, nan}
 use Rattle.base.specs.Lists.{over}
 use Rattle.base.proofs.Fills.{fill, fill-starts, fill-step, fill-ends}
-use Rattle.stats.specs.Sums.{itself}
-use Rattle.speed.proofs.put.Statement.{statement}
-use Rattle.speed.proofs.put.Tie as tie
+use Rattle.lent.proofs.Lays.{no-room, laid-room}
+use Rattle.lent.proofs.put.Statement.{statement}
+use Rattle.lent.proofs.put.Tie as tie
+
+abbrev itself : Float → Float
+itself x = x
 
 abbrev Inv-loop : tie.InvT-loop
-Inv-loop out₀ numbers i₀ out i = (i ≤ length numbers) × (length out ≡ length out₀) × (fill itself numbers out i ≡ over (map itself numbers) out₀)
+Inv-loop out₀ numbers i₀ out i = (i ≤ length numbers) × (length numbers ≤ length out₀) × (length out ≡ length out₀) × (fill itself numbers out i ≡ over (map itself numbers) out₀)
 
 abbrev μ-loop : tie.MeasureT-loop
 μ-loop out₀ numbers i₀ out i = length numbers - i
 
+returns : tie.Need-returns Inv-loop μ-loop
+returns c = no-room _ _ (c .if1 .taken)
+
 loop-holds : tie.Need-loop-holds Inv-loop μ-loop
-loop-holds c = (omega arith, refl, fill-starts itself (c .args .numbers .now) (c .args .out .now) (search needs))
+loop-holds c = let a = c .before .args in
+    (omega arith, c .if1 .left, refl, fill-starts itself (a .numbers .now) (a .out .now) (c .if1 .left))
 
 mul-out : tie.Need-mul-out Inv-loop μ-loop
 mul-out c = omega arith
@@ -42,16 +49,16 @@ loop-less c = omega arith
 loop-again : tie.Need-loop-again Inv-loop μ-loop
 loop-again c =
     let at = c .before .before in
-    (omega arith, simp length-set (omega arith), fill-step itself (at .before .args .numbers .now) nan (at .loop .out) (at .loop .i) _ (at .loop .inv .2) (c .before .loop-test .taken) refl)
+    (omega arith, at .loop .inv .1, simp length-set (omega arith), fill-step itself _ nan (at .loop .out) (at .loop .i) _ (at .loop .inv .3) (c .before .loop-test .taken) refl)
 
 same-length : tie.Need-same-length Inv-loop μ-loop
 same-length c = search needs
 
-returns : tie.Need-returns Inv-loop μ-loop
-returns c =
+returns-2 : tie.Need-returns-2 Inv-loop μ-loop
+returns-2 c =
     let at = c .before in
-    let a = at .before .args in
-    rw (map-id (a .numbers .now)) at (fill-ends itself (a .numbers .now) (at .loop .out) (at .loop .i) (at .loop .inv .2) (c .loop-test .left))
+    let a = at .before .before .args in
+    rw (map-id (a .numbers .now)) at (fill-ends itself _ (at .loop .out) (at .loop .i) (at .loop .inv .3) (c .loop-test .left)) ∙ sym (laid-room _ _ (at .loop .inv .1))
 
 pub put-spec : {M : Type 1} → statement M
 put-spec =
@@ -59,6 +66,7 @@ put-spec =
     (tie.spec
     Inv-loop
     μ-loop
+    returns
     loop-holds
     mul-out
     shared-slice-read-out
@@ -68,4 +76,4 @@ put-spec =
     loop-less
     loop-again
     same-length
-    returns)
+    returns-2)
