@@ -1,12 +1,13 @@
-/* nanbits COUNT: the raw bits of every double that the exported calls hand out. Each NaN among them must be 7FF8000000000000. No proof can say so, since the
-   logic has one NaN, and the comparisons with the Rust print every NaN alike. The machine's own NaN of 0/0 or inf - inf is FFF8000000000000, so a NaN that is
-   handed out as the machine made it is seen here.
+/* nanbits COUNT: the raw bits of every double that the library hands out. Each NaN among them must be 7FF8000000000000. No proof can say so, since the logic has
+   one NaN, and the comparisons with the Rust print every NaN alike. The machine's own NaN of 0/0 or inf - inf is FFF8000000000000, so a NaN that is handed out
+   as the machine made it is seen here. Here are the calls that the library exports by itself; tests/rawcalls.c has the other public functions.
 
    Each kind of readings that makes NaNs is put through each call in designs of several shapes; then COUNT random sets mix the kinds. Inputs are kept as whole
    numbers, so that nothing here changes a NaN's bits. Before a call, its output and its scratch hold a NaN that no arithmetic makes: so a place that the call
    ought to write and does not is seen too, and one that it ought to leave and writes. */
+#include "nanbits.h"
+
 #include <float.h>
-#include <stdint.h>
 #include <stdio.h>
 #include <stdlib.h>
 #include <string.h>
@@ -20,49 +21,34 @@ double speed_sqrt(double);
 uint32_t rates_two_way(const double *, size_t, const uint32_t *, size_t, const uint32_t *, size_t, double *, size_t, double *, size_t);
 uint32_t tempo_repeated(const double *, size_t, const uint32_t *, size_t, uint32_t, double *, size_t);
 
-static const uint64_t THE_NAN = 0x7FF8000000000000u, STRANGE = 0xFFF4000DEADBEEF1u, PLUS = 0x7FF0000000000000u, MINUS = 0xFFF0000000000000u;
-
-enum { READINGS = 512, ROWS = 64, EDITS = 16, PLACES = 25, SCRATCH = 6400, BEHIND = 4 };
+enum { PLACES = 25 };
 enum { FISHER, WELCH, ROOT, HISTORY_FISHER, HISTORY_WELCH, BALANCED, UNBALANCED, PLAIN, SPHERICITY, CALLS };
 
-/* Of each call: how many places it hands out, and in how many of them a NaN must be seen, since of a place that never had one the run shows nothing. The others
-   cannot hold a NaN: degrees of freedom that are counts, what Welch's method does not have, what is not worked out where sphericity is not asked for, and both
-   epsilons, which have numbers as bounds, with the degrees of freedom that one of them makes. */
-static struct call {
-    const char *name;
-    unsigned places, must;
-    unsigned long calls, accepted, nans, failures, seen[PLACES], wrong[PLACES];
-} calls[CALLS] = {
-    {"speed_fisher", 25, 23, 0, 0, 0, 0, {0}, {0}},
-    {"speed_welch", 25, 18, 0, 0, 0, 0, {0}, {0}},
-    {"speed_sqrt", 1, 1, 0, 0, 0, 0, {0}, {0}},
-    {"speed_history_fisher", EDITS, EDITS, 0, 0, 0, 0, {0}, {0}},
-    {"speed_history_welch", EDITS, EDITS, 0, 0, 0, 0, {0}, {0}},
-    {"rates_two_way, balanced", 6, 6, 0, 0, 0, 0, {0}, {0}},
-    {"rates_two_way, unbalanced", 6, 6, 0, 0, 0, 0, {0}, {0}},
-    {"tempo_repeated", 8, 4, 0, 0, 0, 0, {0}, {0}},
-    {"tempo_repeated, sphericity", 8, 5, 0, 0, 0, 0, {0}, {0}},
-};
-
-/* The input of a call: the readings of k rows, which are groups, cells or subjects. */
-struct set {
-    const char *kind;
-    unsigned k, n, levels_b;
-    uint32_t sizes[ROWS], code_a[READINGS], code_b[READINGS], edits[3 * EDITS];
-    uint64_t readings[READINGS], fresh[EDITS];
+/* The places that cannot hold a NaN: degrees of freedom that are counts, what Welch's method does not have, what is not worked out where sphericity is not asked
+   for, and both epsilons, which have numbers as bounds, with the degrees of freedom that one of them makes. */
+static struct call calls[CALLS] = {
+    {.name = "speed_fisher", .places = 25, .must = 23},
+    {.name = "speed_welch", .places = 25, .must = 18},
+    {.name = "speed_sqrt", .places = 1, .must = 1},
+    {.name = "speed_history_fisher", .places = EDITS, .must = EDITS},
+    {.name = "speed_history_welch", .places = EDITS, .must = EDITS},
+    {.name = "rates_two_way, balanced", .places = 6, .must = 6},
+    {.name = "rates_two_way, unbalanced", .places = 6, .must = 6},
+    {.name = "tempo_repeated", .places = 8, .must = 4},
+    {.name = "tempo_repeated, sphericity", .places = 8, .must = 5},
 };
 
 static int failed;
 
-static int is_nan(uint64_t b) { return (b & 0x7FFFFFFFFFFFFFFFu) > PLUS; }
+int is_nan(uint64_t b) { return (b & 0x7FFFFFFFFFFFFFFFu) > PLUS; }
 
-static uint64_t bits(double x) {
+uint64_t bits(double x) {
     uint64_t b;
     memcpy(&b, &x, sizeof b);
     return b;
 }
 
-static double with_bits(uint64_t b) {
+double with_bits(uint64_t b) {
     double x;
     memcpy(&x, &b, sizeof x);
     return x;
@@ -83,20 +69,21 @@ static void doubles(const char *what, const uint64_t *b, unsigned n) {
 }
 
 /* Only the first failure of a call is shown, with its input; the call's line at the end has how many there were, and in which places. */
-static void fail(struct call *c, const struct set *s, uint32_t number, const char *what, unsigned place, uint64_t holds) {
+void fail(struct call *c, const struct set *s, uint32_t number, const char *what, unsigned place, uint64_t holds) {
     failed = 1;
     if (c->failures++) return;
     printf("nanbits: %s: number %u: %s: place %u holds %016llX\n", c->name, (unsigned)number, what, place, (unsigned long long)holds);
     printf("  input: %s\n", s->kind);
     doubles("readings", s->readings, s->n);
     if (s->k) words("sizes", s->sizes, s->k);
-    if (c == calls + BALANCED || c == calls + UNBALANCED) words("codes A", s->code_a, s->n), words("codes B", s->code_b, s->n);
-    if (c == calls + HISTORY_FISHER || c == calls + HISTORY_WELCH) words("edits", s->edits, 3 * EDITS), doubles("new readings", s->fresh, EDITS);
+    if (s->levels_b) words("codes A", s->code_a, s->n), words("codes B", s->code_b, s->n);
+    if (s->edited) words("edits", s->edits, 3 * EDITS), doubles("new readings", s->fresh, EDITS);
+    if (s->m) words("numbers", s->numbers, s->m);
 }
 
 /* ---- one call */
 
-static void look(struct call *c, const struct set *s, unsigned place, uint64_t b) {
+void look(struct call *c, const struct set *s, unsigned place, uint64_t b) {
     if (!is_nan(b)) return;
     c->nans++, c->seen[place]++;
     if (b == THE_NAN) return;
@@ -104,8 +91,9 @@ static void look(struct call *c, const struct set *s, unsigned place, uint64_t b
     fail(c, s, 0, "a NaN of other bits", place, b);
 }
 
-static void fill(double *p, size_t n) {
-    for (size_t i = 0; i < n; i++) memcpy(p + i, &STRANGE, sizeof STRANGE);
+void fill(double *p, size_t n) {
+    const uint64_t strange = STRANGE;
+    for (size_t i = 0; i < n; i++) memcpy(p + i, &strange, sizeof strange);
 }
 
 /* All designs here are sound, so a call takes each that has no NaN and refuses each other one with number 4. A refused call leaves what it was lent as it was. */
@@ -150,32 +138,30 @@ static void ask(int which, const struct set *s) {
 
 static uint64_t state = 0x9E3779B97F4A7C15u;
 
-static uint64_t next(void) {
+uint64_t next(void) {
     state ^= state << 13, state ^= state >> 7, state ^= state << 17;
     return state;
 }
 
-static unsigned below(unsigned n) { return (next() >> 32) % n; }
+unsigned below(unsigned n) { return (next() >> 32) % n; }
 
 /* ---- kinds of readings */
 
-static const uint64_t nans[] = {
+const uint64_t nans[NANS] = {
     0x7FF8000000000000u, 0xFFF8000000000000u, /* quiet */
     0x7FF0000000000001u, 0xFFF0000000000001u, 0x7FF4000000000000u, 0xFFF7FFFFFFFFFFFFu, /* signalling */
     0x7FF8000000000001u, 0x7FFFFFFFFFFFFFFFu, 0xFFFFFFFFFFFFFFFFu, 0xFFFC0000DEADBEEFu, /* quiet, with a payload */
 };
-enum { NANS = sizeof nans / sizeof *nans };
 
-static const char *const kinds[] = {
+static const char *const kinds[KINDS] = {
     "ordinary readings", "+inf in one row", "-inf in one row", "both infinities in one row", "+inf in one row, -inf in another", "+inf in each row",
     "both infinities in each row", "nothing but +inf", "nothing but -inf", "infinities by turns", "constant readings", "constant rows", "nothing but +0.0",
     "nothing but -0.0", "the largest double", "the largest doubles of both signs", "squares that overflow", "products of squares that overflow",
     "squares that vanish", "the smallest doubles", "tiny beside huge", "any bits but a NaN's",
 };
-enum { KINDS = sizeof kinds / sizeof *kinds };
 
 /* The reading in place p of row g. */
-static uint64_t reading(unsigned kind, unsigned g, unsigned p) {
+uint64_t reading(unsigned kind, unsigned g, unsigned p) {
     double x = 20.0 + (7 * g + 5 * p + 3 * g * p) % 11 * 0.25;
     uint64_t b;
     switch (kind) {
@@ -209,8 +195,8 @@ static uint64_t reading(unsigned kind, unsigned g, unsigned p) {
 
 /* ---- sets: the sizes of the rows first, then the readings */
 
-static void rows(struct set *s, unsigned k, unsigned low, unsigned high) {
-    s->k = k, s->n = 0;
+void rows(struct set *s, unsigned k, unsigned low, unsigned high) {
+    s->k = k, s->n = s->levels_b = s->edited = s->m = 0;
     for (unsigned g = 0; g < k; g++) {
         s->sizes[g] = low + below(high - low + 1);
         if (s->n + s->sizes[g] + (k - 1 - g) * low > READINGS) s->sizes[g] = low;
@@ -219,10 +205,10 @@ static void rows(struct set *s, unsigned k, unsigned low, unsigned high) {
 }
 
 /* Cells of levels_a by levels_b. Of an unbalanced design the first cell has one reading more than the second; of a balanced one, each has two or more. */
-static void cells(struct set *s, unsigned levels_a, unsigned levels_b, unsigned most, int which) {
+void cells(struct set *s, unsigned levels_a, unsigned levels_b, unsigned most, int balanced) {
     unsigned each = 2 + below(most - 1);
-    rows(s, levels_a * levels_b, which == BALANCED ? each : 1, which == BALANCED ? each : most);
-    if (which == UNBALANCED) s->n += s->sizes[1] + 1, s->n -= s->sizes[0], s->sizes[0] = s->sizes[1] + 1;
+    rows(s, levels_a * levels_b, balanced ? each : 1, balanced ? each : most);
+    if (!balanced) s->n += s->sizes[1] + 1, s->n -= s->sizes[0], s->sizes[0] = s->sizes[1] + 1;
     s->levels_b = levels_b;
 }
 
@@ -234,7 +220,7 @@ static void of_kind(struct set *s, unsigned kind) {
 }
 
 /* A reading of any kind, from the places in which the kinds have their infinities. */
-static uint64_t any_reading(void) {
+uint64_t any_reading(void) {
     unsigned kind = below(KINDS), at = below(4);
     return reading(kind, at / 2, at % 2);
 }
@@ -247,13 +233,13 @@ static void mixed(struct set *s) {
         unsigned here = below(8) ? kind : below(KINDS);
         for (unsigned p = 0; p < s->sizes[g]; p++) s->readings[i++] = below(40) ? reading(here, g, p) : any_reading();
     }
-    if (below(16)) return;
+    if (below(16) || s->n == 0) return;
     i = below(s->n);
     s->readings[i] = nans[below(NANS)];
 }
 
 /* The codes of the cells' readings; where the order is free, every reading changes its place with another. */
-static void codes(struct set *s, int in_order) {
+void codes(struct set *s, int in_order) {
     unsigned i = 0;
     for (unsigned g = 0; g < s->k; g++)
         for (unsigned p = 0; p < s->sizes[g]; p++, i++) s->code_a[i] = g / s->levels_b, s->code_b[i] = g % s->levels_b;
@@ -267,7 +253,8 @@ static void codes(struct set *s, int in_order) {
 }
 
 /* Edits of a sheet: some name a group or a place that is not there, some bring a NaN, and some take an infinity away again. */
-static void edits(struct set *s) {
+void edits(struct set *s) {
+    s->edited = 1;
     for (unsigned i = 0; i < EDITS; i++) {
         s->edits[3 * i] = 1 + below(3), s->edits[3 * i + 1] = below(s->k + !below(8)), s->edits[3 * i + 2] = below(4);
         s->fresh[i] = below(3) ? reading(0, i, 0) : below(8) ? any_reading() : nans[below(NANS)];
@@ -276,7 +263,7 @@ static void edits(struct set *s) {
 
 /* ---- all calls on designs of one shape: on one kind of readings, or (kind KINDS) on kinds mixed */
 
-static void readings_of(struct set *s, unsigned kind) {
+void readings_of(struct set *s, unsigned kind) {
     if (kind == KINDS)
         mixed(s);
     else
@@ -292,7 +279,7 @@ static void ask_groups(struct set *s, unsigned kind, unsigned k, unsigned low, u
 
 static void ask_cells(struct set *s, unsigned kind, unsigned levels_a, unsigned levels_b, unsigned most) {
     for (int which = BALANCED; which <= UNBALANCED; which++) {
-        cells(s, levels_a, levels_b, most, which);
+        cells(s, levels_a, levels_b, most, which == BALANCED);
         readings_of(s, kind);
         codes(s, kind < KINDS);
         ask(which, s);
@@ -306,7 +293,8 @@ static void ask_subjects(struct set *s, unsigned kind, unsigned subjects, unsign
 }
 
 static void ask_root(struct set *s, uint64_t b) {
-    s->kind = "the argument", s->k = 0, s->n = 1, s->readings[0] = b;
+    rows(s, 0, 0, 0);
+    s->kind = "the argument", s->n = 1, s->readings[0] = b;
     ask(ROOT, s);
 }
 
@@ -318,10 +306,26 @@ static void ask_nans(struct set *s) {
         edits(s);
         ask(FISHER, s), ask(WELCH, s), ask(HISTORY_FISHER, s), ask(HISTORY_WELCH, s), ask(PLAIN, s), ask(SPHERICITY, s);
         for (int which = BALANCED; which <= UNBALANCED; which++) {
-            cells(s, 2, 2, 3, which), of_kind(s, i % 3), codes(s, 1);
+            cells(s, 2, 2, 3, which == BALANCED), of_kind(s, i % 3), codes(s, 1);
             s->kind = "a NaN", s->readings[i < NANS ? s->n - 1 : 0] = nans[i % NANS];
             ask(which, s);
         }
+    }
+}
+
+/* A line for each call. */
+void tell(const struct call *first, unsigned n) {
+    for (const struct call *c = first; c < first + n; c++) {
+        unsigned seen = 0;
+        for (unsigned i = 0; i < c->places; i++) seen += c->seen[i] > 0;
+        printf("nanbits: %-28s %7lu calls, %7lu accepted, %8lu NaNs, in %4u of %4u places", c->name, c->calls, c->accepted, c->nans, seen, c->places);
+        if (c->keeps) printf(", %lu NaNs of other bits kept", c->kept);
+        if (c->failures) printf("; %lu failures, with NaNs of other bits in the places", c->failures);
+        for (unsigned i = 0; i < c->places; i++)
+            if (c->wrong[i]) printf(" %u", i);
+        if (seen < c->must) printf("; %u had to be seen: FAILED", c->must), failed = 1;
+        if (c->keeps && c->kept == 0) printf("; one had to be kept: FAILED"), failed = 1;
+        printf("\n");
     }
 }
 
@@ -345,16 +349,8 @@ int main(int argc, char **argv) {
         ask_subjects(&s, KINDS, subjects, conditions);
         ask_root(&s, next()), ask_root(&s, PLUS | next());
     }
-    for (struct call *c = calls; c < calls + CALLS; c++) {
-        unsigned seen = 0;
-        for (unsigned i = 0; i < c->places; i++) seen += c->seen[i] > 0;
-        printf("nanbits: %-27s %6lu calls, %6lu accepted, %7lu NaNs, in %2u of %2u places", c->name, c->calls, c->accepted, c->nans, seen, c->places);
-        if (c->failures) printf("; %lu failures, with NaNs of other bits in the places", c->failures);
-        for (unsigned i = 0; i < c->places; i++)
-            if (c->wrong[i]) printf(" %u", i);
-        if (seen < c->must) printf("; %u had to be seen: FAILED", c->must), failed = 1;
-        printf("\n");
-    }
-    puts(failed ? "nanbits: FAILED" : "nanbits: each NaN has the bits 7FF8000000000000");
+    tell(calls, CALLS);
+    raw_calls(&s, count);
+    puts(failed ? "nanbits: FAILED" : "nanbits: each NaN that is made has the bits 7FF8000000000000, and each that is kept has its own");
     return failed;
 }

@@ -2,7 +2,9 @@
 use lines::Out;
 use study::GaugeStudy;
 use twoway::TwoWayAnovaResult;
-ghost use Prim.Native.Nat.{_≤_};
+ghost use mathlib.Core.Path.{_≡_};
+ghost use Rattle.designs.specs.Answers.{cellsPut, marginsPut, effectPut, restPut, meansPut, resultPut, componentsPut};
+ghost use Rattle.designs.specs.Answers.{sameOf, holdingOf, scratchPut, twoWayPut, studyPut, lentPut, answerPut};
 
 // What a stream can lend.
 const MOST_LENT: usize = 6500;
@@ -16,64 +18,72 @@ pub fn answer(
     a: &[u32],
     b: &[u32],
     readings: &[f64],
-) -> usize {
-    match kind {
-        5 => two_way(out, at, option, a, b, readings),
-        7 => study(out, at, option, a, b, readings),
-        _ => text::put(out, at, b"unknown kind\n"),
+) -> usize
+    ensures { λ x. ⌜ (now (out .exit), x) ≡ answerPut kind option (now (a .entry)) (now (b .entry)) (now (readings .entry)) (now (out .entry), at) ⌝ }
+{
+    if kind == 5 {
+        return two_way(out, at, option, a, b, readings);
     }
+    if kind == 7 {
+        return study(out, at, option, a, b, readings);
+    }
+    text::put(out, at, b"unknown kind\n")
 }
 
 // The option says how much scratch is lent. Each of its places holds 1.5 before the call.
-fn two_way(out: &mut Out, at: usize, option: u32, a: &[u32], b: &[u32], readings: &[f64]) -> usize {
+fn two_way(out: &mut Out, at: usize, option: u32, a: &[u32], b: &[u32], readings: &[f64]) -> usize
+    ensures { λ x. ⌜ (now (out .exit), x) ≡ lentPut option (twoWayPut (now (a .entry)) (now (b .entry)) (now (readings .entry))) (now (out .entry), at) ⌝ }
+{
     if MOST_LENT < option as usize {
         return text::put(out, at, b"bad case\n");
     }
-    two_way_in(out, at, option as usize, [1.5; 6500], a, b, readings)
+    let mut scratch = [1.5; 6500];
+    two_way_in(out, at, &mut scratch[..option as usize], a, b, readings)
 }
 
 fn two_way_in(
     out: &mut Out,
     at: usize,
-    n: usize,
-    lent: [f64; 6500],
+    scratch: &mut [f64],
     a: &[u32],
     b: &[u32],
     readings: &[f64],
 ) -> usize
-    requires { ⌜ n ≤ 6500 ⌝ }
+    ensures { λ x. ⌜ (now (out .exit), x) ≡ twoWayPut (now (a .entry)) (now (b .entry)) (now (readings .entry)) (now (scratch .entry)) (now (out .entry), at) ⌝ }
 {
-    let mut scratch = lent;
-    let r = twoway::two_way_anova(readings, a, b, &mut scratch[..n]);
+    let r = twoway::two_way_anova(readings, a, b, scratch);
     let next = two_way_lines(out, at, r);
-    scratch_line(out, next, n, scratch)
+    scratch_line(out, next, scratch)
 }
 
-fn study(out: &mut Out, at: usize, option: u32, a: &[u32], b: &[u32], readings: &[f64]) -> usize {
+fn study(out: &mut Out, at: usize, option: u32, a: &[u32], b: &[u32], readings: &[f64]) -> usize
+    ensures { λ x. ⌜ (now (out .exit), x) ≡ lentPut option (studyPut (now (a .entry)) (now (b .entry)) (now (readings .entry))) (now (out .entry), at) ⌝ }
+{
     if MOST_LENT < option as usize {
         return text::put(out, at, b"bad case\n");
     }
-    study_in(out, at, option as usize, [1.5; 6500], a, b, readings)
+    let mut scratch = [1.5; 6500];
+    study_in(out, at, &mut scratch[..option as usize], a, b, readings)
 }
 
 fn study_in(
     out: &mut Out,
     at: usize,
-    n: usize,
-    lent: [f64; 6500],
+    scratch: &mut [f64],
     a: &[u32],
     b: &[u32],
     readings: &[f64],
 ) -> usize
-    requires { ⌜ n ≤ 6500 ⌝ }
+    ensures { λ x. ⌜ (now (out .exit), x) ≡ studyPut (now (a .entry)) (now (b .entry)) (now (readings .entry)) (now (scratch .entry)) (now (out .entry), at) ⌝ }
 {
-    let mut scratch = lent;
-    let r = study::gauge_study(readings, a, b, &mut scratch[..n]);
+    let r = study::gauge_study(readings, a, b, scratch);
     let next = study_lines(out, at, r);
-    scratch_line(out, next, n, scratch)
+    scratch_line(out, next, scratch)
 }
 
-fn two_way_lines(out: &mut Out, at: usize, r: TwoWayAnovaResult) -> usize {
+fn two_way_lines(out: &mut Out, at: usize, r: TwoWayAnovaResult) -> usize
+    ensures { λ x. ⌜ (now (out .exit), x) ≡ resultPut r (now (out .entry), at) ⌝ }
+{
     let refusal = r.refusal;
     if refusal.number != 0 {
         return lines::refused(out, at, refusal);
@@ -83,7 +93,9 @@ fn two_way_lines(out: &mut Out, at: usize, r: TwoWayAnovaResult) -> usize {
     mean_lines(out, rest, r)
 }
 
-fn effect_lines(out: &mut Out, at: usize, r: TwoWayAnovaResult) -> usize {
+fn effect_lines(out: &mut Out, at: usize, r: TwoWayAnovaResult) -> usize
+    ensures { λ x. ⌜ (now (out .exit), x) ≡ effectPut r (now (out .entry), at) ⌝ }
+{
     let a = r.factor_a;
     let b = r.factor_b;
     lines::numbers(
@@ -95,7 +107,9 @@ fn effect_lines(out: &mut Out, at: usize, r: TwoWayAnovaResult) -> usize {
     )
 }
 
-fn rest_lines(out: &mut Out, at: usize, r: TwoWayAnovaResult) -> usize {
+fn rest_lines(out: &mut Out, at: usize, r: TwoWayAnovaResult) -> usize
+    ensures { λ x. ⌜ (now (out .exit), x) ≡ restPut r (now (out .entry), at) ⌝ }
+{
     let ab = r.interaction;
     let e = r.residual;
     let t = r.total;
@@ -119,7 +133,9 @@ fn rest_lines(out: &mut Out, at: usize, r: TwoWayAnovaResult) -> usize {
     )
 }
 
-fn mean_lines(out: &mut Out, at: usize, r: TwoWayAnovaResult) -> usize {
+fn mean_lines(out: &mut Out, at: usize, r: TwoWayAnovaResult) -> usize
+    ensures { λ x. ⌜ (now (out .exit), x) ≡ meansPut r (now (out .entry), at) ⌝ }
+{
     let next = lines::numbers(out, at, b"grand0\n", [0; 3], [r.grand_mean; 10]);
     let cells = r.cell_means;
     let means_a = r.marginal_means_a;
@@ -131,7 +147,9 @@ fn mean_lines(out: &mut Out, at: usize, r: TwoWayAnovaResult) -> usize {
     margins_line(out, after_a, b"margins_b@\n", b, means_b)
 }
 
-fn cells_line(out: &mut Out, at: usize, a: usize, b: usize, means: [f64; 36]) -> usize {
+fn cells_line(out: &mut Out, at: usize, a: usize, b: usize, means: [f64; 36]) -> usize
+    ensures { λ x. ⌜ (now (out .exit), x) ≡ cellsPut a b means (now (out .entry), at) ⌝ }
+{
     if a > 6 {
         return at;
     }
@@ -141,14 +159,18 @@ fn cells_line(out: &mut Out, at: usize, a: usize, b: usize, means: [f64; 36]) ->
     lines::list(out, at, b"cells@\n", [0; 3], &means[..a * b])
 }
 
-fn margins_line(out: &mut Out, at: usize, form: &[u8], n: usize, means: [f64; 6]) -> usize {
+fn margins_line(out: &mut Out, at: usize, form: &[u8], n: usize, means: [f64; 6]) -> usize
+    ensures { λ x. ⌜ (now (out .exit), x) ≡ marginsPut (now (form .entry)) n means (now (out .entry), at) ⌝ }
+{
     if n > 6 {
         return at;
     }
     lines::list(out, at, form, [0; 3], &means[..n])
 }
 
-fn study_lines(out: &mut Out, at: usize, r: GaugeStudy) -> usize {
+fn study_lines(out: &mut Out, at: usize, r: GaugeStudy) -> usize
+    ensures { λ x. ⌜ (now (out .exit), x) ≡ componentsPut r (now (out .entry), at) ⌝ }
+{
     let refusal = r.refusal;
     if refusal.number != 0 {
         return lines::refused(out, at, refusal);
@@ -173,13 +195,13 @@ fn study_lines(out: &mut Out, at: usize, r: GaugeStudy) -> usize {
     )
 }
 
-// How many of the first n places have these bits.
-fn holding(n: usize, scratch: [f64; 6500], bits: u64) -> u64
-    requires { ⌜ n ≤ 6500 ⌝ }
+// How many places have these bits.
+fn holding(scratch: &[f64], bits: u64) -> u64
+    ensures { λ r. ⌜ r ≡ holdingOf (now (scratch .entry)) bits ⌝ }
 {
     let mut found: u64 = 0;
     let mut i = 0;
-    while i < n {
+    while i < scratch.len() {
         found += same(float::bits_of(scratch[i]), bits);
         i += 1;
     }
@@ -187,7 +209,7 @@ fn holding(n: usize, scratch: [f64; 6500], bits: u64) -> u64
 }
 
 fn same(a: u64, b: u64) -> u64
-    ensures { λ r. ⌜ r ≤ 1 ⌝ }
+    ensures { λ r. ⌜ r ≡ sameOf a b ⌝ }
 {
     if a == b {
         return 1;
@@ -196,10 +218,10 @@ fn same(a: u64, b: u64) -> u64
 }
 
 // The places that hold +0.0, and those that still hold 1.5.
-fn scratch_line(out: &mut Out, at: usize, n: usize, scratch: [f64; 6500]) -> usize
-    requires { ⌜ n ≤ 6500 ⌝ }
+fn scratch_line(out: &mut Out, at: usize, scratch: &[f64]) -> usize
+    ensures { λ x. ⌜ (now (out .exit), x) ≡ scratchPut (now (scratch .entry)) (now (out .entry), at) ⌝ }
 {
-    let zeros = holding(n, scratch, 0);
-    let kept = holding(n, scratch, 0x3FF8000000000000);
+    let zeros = holding(scratch, 0);
+    let kept = holding(scratch, 0x3FF8000000000000);
     lines::numbers(out, at, b"scratchAB\n", [zeros, kept, 0], [0.0; 10])
 }

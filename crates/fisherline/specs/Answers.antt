@@ -9,26 +9,27 @@ use Rattle.base.specs.Refusals.{refuse}
 use Rattle.oneway.specs.declared.AnovaKind.the-variants.{Fisher}
 use Rattle.results.specs.declared.OneWayAnovaResult.{OneWayAnovaResult}
 use Rattle.set.specs.Sets.{setAnova}
+use Rattle.text.specs.Ascii.{ascii}
 use Rattle.fisherline.specs.Rows.{countsLine, floatsLine, puts}
 
--- the lines' names in ASCII: `refused`, `fisher`, `ss`, `df`, `ms`, `f`
+-- the lines' names
 abbrev pub refusedName : List ℕ
-refusedName = 114 ∷ 101 ∷ 102 ∷ 117 ∷ 115 ∷ 101 ∷ 100 ∷ []
+refusedName = ascii "refused"
 
 abbrev pub fisherName : List ℕ
-fisherName = 102 ∷ 105 ∷ 115 ∷ 104 ∷ 101 ∷ 114 ∷ []
+fisherName = ascii "fisher"
 
 abbrev pub ssName : List ℕ
-ssName = 115 ∷ 115 ∷ []
+ssName = ascii "ss"
 
 abbrev pub dfName : List ℕ
-dfName = 100 ∷ 102 ∷ []
+dfName = ascii "df"
 
 abbrev pub msName : List ℕ
-msName = 109 ∷ 115 ∷ []
+msName = ascii "ms"
 
 abbrev pub fName : List ℕ
-fName = 102 ∷ []
+fName = ascii "f"
 
 -- a refusal: its number and its details
 abbrev pub refusedText : Refusal → List ℕ

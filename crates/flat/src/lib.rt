@@ -50,10 +50,10 @@ pub fn dot(x: &[f64], p: usize, s: usize, y: &[f64], q: usize, t: usize, n: usiz
     ensures { λ r. ⌜ r ≡ dotIn z (now (x .entry)) p s (now (y .entry)) q t n ⌝ }
 {
     if lacks(x, p, s, n) {
-        return z;
+        return float::canon(z);
     }
     if lacks(y, q, t, n) {
-        return z;
+        return float::canon(z);
     }
     let mut sum = z;
     for m in 0..n {

@@ -7,6 +7,7 @@ use lib.Ieee.{Float, binary64, toBits, nan}
 use lib.ListN.{length, getD, replicate}
 use Rattle.base.specs.declared.Refusal.{Refusal}
 use Rattle.float.specs.Words.{plusZero}
+use Rattle.text.specs.Ascii.{ascii}
 use Rattle.text.specs.Numbers.{hexOf, numeralOf}
 use Rattle.text.specs.Put.{putOf}
 
@@ -49,9 +50,12 @@ letterPut ns xs s b =
 unfoldable pub formPut : List ℕ → List Float → Lines → List ℕ → Lines
 formPut ns xs s form = foldl (letterPut ns xs) s form
 
--- `refusedABC` and a newline
 abbrev pub refusedForm : List ℕ
-refusedForm = 114 ∷ 101 ∷ 102 ∷ 117 ∷ 115 ∷ 101 ∷ 100 ∷ 65 ∷ 66 ∷ 67 ∷ 10 ∷ []
+refusedForm = ascii "refusedABC\n"
+
+-- where a form has no letter for a count, or none for a double
+abbrev pub noCounts : List ℕ
+noCounts = replicate 3 0
 
 unfoldable pub noDoubles : List Float
 noDoubles = replicate 10 plusZero

@@ -1,1 +1,3 @@
 pub mod Inside
+pub mod Layouts
+pub mod Answers

@@ -1,8 +1,12 @@
 // A case's matrix, laid out in rows as an analysis takes it, and the rows that it leaves, as text.
 use lines::Out;
+ghost use mathlib.Core.Path.{_≡_};
 ghost use Prim.Native.Nat.{_+_, _*_, _≤_};
-ghost use lib.ListN.{length};
+ghost use lib.ListN.{length, getD};
+ghost use Rattle.float.specs.Words.{plusZero};
 ghost use Rattle.matrices.specs.Inside.{Inside};
+ghost use Rattle.matrices.specs.Layouts.{sideOf, layRow, layBlock};
+ghost use Rattle.matrices.specs.Answers.{badPut, blockPut};
 
 // A part of each row: the first one's start, how far the rows are apart, how many there are, and how many columns of each.
 pub struct Block {
@@ -15,7 +19,7 @@ pub struct Block {
 // The number of rows n that the option says, where it is at most `most` and n rows of n + extra places are as many as the readings; 0 otherwise.
 pub fn side(option: u32, most: usize, extra: usize, count: usize) -> usize
     requires { ⌜ (most ≤ 24) × (extra ≤ 1) ⌝ }
-    ensures { λ r. ⌜ (r ≤ most) × (r * r ≤ most * most) ⌝ }
+    ensures { λ r. ⌜ (r ≡ sideOf option most extra count) × ((r ≤ most) × (r * r ≤ most * most)) ⌝ }
 {
     let n = option as usize;
     if n > most {
@@ -27,13 +31,16 @@ pub fn side(option: u32, most: usize, extra: usize, count: usize) -> usize
     n
 }
 
-pub fn bad_case(out: &mut Out, at: usize) -> usize {
+pub fn bad_case(out: &mut Out, at: usize) -> usize
+    ensures { λ x. ⌜ (now (out .exit), x) ≡ badPut (now (out .entry), at) ⌝ }
+{
     text::put(out, at, b"bad case\n")
 }
 
 // Lays the list's doubles from `from` on into a block, row by row.
 pub fn lay(m: &mut [f64], b: Block, list: &[f64], from: usize)
     requires { ⌜ Inside b × ((from ≤ 576) × (1152 ≤ length (now m))) ⌝ }
+    ensures { λ _. ⌜ now (m .exit) ≡ layBlock b (now (list .entry)) from (now (m .entry)) ⌝ }
 {
     let mut start = b.start;
     let mut next = from;
@@ -49,6 +56,7 @@ pub fn lay(m: &mut [f64], b: Block, list: &[f64], from: usize)
 // Lays n of the list's doubles, from `from` on, into the places from `start` on.
 pub fn lay_row(m: &mut [f64], start: usize, n: usize, list: &[f64], from: usize)
     requires { ⌜ (start + n ≤ length (now m)) × (from ≤ 1152) ⌝ }
+    ensures { λ _. ⌜ now (m .exit) ≡ layRow start n (now (list .entry)) from (now (m .entry)) ⌝ }
 {
     let mut j = 0;
     while j < n {
@@ -58,7 +66,9 @@ pub fn lay_row(m: &mut [f64], start: usize, n: usize, list: &[f64], from: usize)
 }
 
 // A double of a list; +0.0 behind its end.
-fn reading(list: &[f64], i: usize) -> f64 {
+fn reading(list: &[f64], i: usize) -> f64
+    ensures { λ r. ⌜ r ≡ getD (now (list .entry)) i plusZero ⌝ }
+{
     if i < list.len() {
         return list[i];
     }
@@ -68,6 +78,7 @@ fn reading(list: &[f64], i: usize) -> f64 {
 // Puts a name, and the doubles of a block, row by row.
 pub fn put(out: &mut Out, at: usize, name: &[u8], m: &[f64], b: Block) -> usize
     requires { ⌜ Inside b × (1152 ≤ length (now m)) ⌝ }
+    ensures { λ x. ⌜ (now (out .exit), x) ≡ blockPut (now (name .entry)) (now (m .entry)) b (now (out .entry), at) ⌝ }
 {
     let mut next = text::put(out, at, name);
     let mut start = b.start;

@@ -5,9 +5,13 @@ mod spectra;
 mod systems;
 
 use lines::Out;
+ghost use mathlib.Core.Path.{_≡_};
+ghost use Rattle.matrices.specs.Answers.{matrixPut};
 
-// The kinds 11 to 16.
-pub fn answer(out: &mut Out, at: usize, kind: u32, option: u32, readings: &[f64]) -> usize {
+// The kinds 11 to 16; any other is told to be unknown.
+pub fn answer(out: &mut Out, at: usize, kind: u32, option: u32, readings: &[f64]) -> usize
+    ensures { λ x. ⌜ (now (out .exit), x) ≡ matrixPut kind option (now (readings .entry)) (now (out .entry), at) ⌝ }
+{
     match kind {
         11 => systems::solve(out, at, option, readings),
         12 => systems::inverse(out, at, option, readings),

@@ -3,10 +3,15 @@ use crate::blocks::bad_case;
 use crate::blocks::lay_row;
 use crate::blocks::side;
 use lines::Out;
+ghost use mathlib.Core.Path.{_≡_};
 ghost use Prim.Native.Nat.{_≤_};
+ghost use Rattle.matrices.specs.Layouts.{takenOf};
+ghost use Rattle.matrices.specs.Answers.{eigenvaluesPut, qrPut, orthonormalizePut};
 
 // The option is the number of rows.
-pub fn eigenvalues(out: &mut Out, at: usize, option: u32, readings: &[f64]) -> usize {
+pub fn eigenvalues(out: &mut Out, at: usize, option: u32, readings: &[f64]) -> usize
+    ensures { λ x. ⌜ (now (out .exit), x) ≡ eigenvaluesPut option (now (readings .entry)) (now (out .entry), at) ⌝ }
+{
     let n = side(option, 11, 0, readings.len());
     if n == 0 {
         return bad_case(out, at);
@@ -19,7 +24,9 @@ pub fn eigenvalues(out: &mut Out, at: usize, option: u32, readings: &[f64]) -> u
 }
 
 // Q by rows, then R by rows. The option is the number of rows.
-pub fn qr(out: &mut Out, at: usize, option: u32, readings: &[f64]) -> usize {
+pub fn qr(out: &mut Out, at: usize, option: u32, readings: &[f64]) -> usize
+    ensures { λ x. ⌜ (now (out .exit), x) ≡ qrPut option (now (readings .entry)) (now (out .entry), at) ⌝ }
+{
     let n = side(option, 11, 0, readings.len());
     if n == 0 {
         return bad_case(out, at);
@@ -32,7 +39,9 @@ pub fn qr(out: &mut Out, at: usize, option: u32, readings: &[f64]) -> usize {
 }
 
 // The option is 16 p + k, for p rows of k places.
-pub fn orthonormalize(out: &mut Out, at: usize, option: u32, readings: &[f64]) -> usize {
+pub fn orthonormalize(out: &mut Out, at: usize, option: u32, readings: &[f64]) -> usize
+    ensures { λ x. ⌜ (now (out .exit), x) ≡ orthonormalizePut option (now (readings .entry)) (now (out .entry), at) ⌝ }
+{
     let p = (option / 16) as usize;
     let k = (option % 16) as usize;
     let count = taken(p, k, readings.len());
@@ -47,7 +56,7 @@ pub fn orthonormalize(out: &mut Out, at: usize, option: u32, readings: &[f64]) -
 
 // How many readings there are, where they are p rows of k places, at most 11 of at most 12; 0 otherwise.
 fn taken(p: usize, k: usize, count: usize) -> usize
-    ensures { λ r. ⌜ r ≤ 132 ⌝ }
+    ensures { λ r. ⌜ (r ≡ takenOf p k count) × (r ≤ 132) ⌝ }
 {
     if p > 11 {
         return 0;

@@ -6,9 +6,13 @@ use crate::blocks::lay_row;
 use crate::blocks::put;
 use crate::blocks::side;
 use lines::Out;
+ghost use mathlib.Core.Path.{_≡_};
+ghost use Rattle.matrices.specs.Answers.{solvePut, inversePut, determinantPut};
 
 // The readings are the matrix by rows, and the right sides behind it.
-pub fn solve(out: &mut Out, at: usize, option: u32, readings: &[f64]) -> usize {
+pub fn solve(out: &mut Out, at: usize, option: u32, readings: &[f64]) -> usize
+    ensures { λ x. ⌜ (now (out .exit), x) ≡ solvePut option (now (readings .entry)) (now (out .entry), at) ⌝ }
+{
     let n = side(option, 23, 1, readings.len());
     if n == 0 {
         return bad_case(out, at);
@@ -32,7 +36,9 @@ pub fn solve(out: &mut Out, at: usize, option: u32, readings: &[f64]) -> usize {
     put(out, at, b"solve", &m, right)
 }
 
-pub fn inverse(out: &mut Out, at: usize, option: u32, readings: &[f64]) -> usize {
+pub fn inverse(out: &mut Out, at: usize, option: u32, readings: &[f64]) -> usize
+    ensures { λ x. ⌜ (now (out .exit), x) ≡ inversePut option (now (readings .entry)) (now (out .entry), at) ⌝ }
+{
     let n = side(option, 24, 0, readings.len());
     if n == 0 {
         return bad_case(out, at);
@@ -55,7 +61,9 @@ pub fn inverse(out: &mut Out, at: usize, option: u32, readings: &[f64]) -> usize
     put(out, at, b"inverse", &m, right)
 }
 
-pub fn determinant(out: &mut Out, at: usize, option: u32, readings: &[f64]) -> usize {
+pub fn determinant(out: &mut Out, at: usize, option: u32, readings: &[f64]) -> usize
+    ensures { λ x. ⌜ (now (out .exit), x) ≡ determinantPut option (now (readings .entry)) (now (out .entry), at) ⌝ }
+{
     let n = side(option, 11, 0, readings.len());
     if n == 0 {
         return bad_case(out, at);

@@ -1,6 +1,8 @@
 // The answers of `replay` for repeated measures: kind 6.
 use lines::Out;
 use repeated::RmAnovaResult;
+ghost use mathlib.Core.Path.{_≡_};
+ghost use Rattle.measures.specs.Answers.{effectPut, restPut, meansPut, conditionsPut, subjectsPut, sphericityPut, repeatedPut};
 
 // The option 1 asks for sphericity.
 pub fn repeated_measures(
@@ -9,7 +11,9 @@ pub fn repeated_measures(
     option: u32,
     sizes: &[u32],
     readings: &[f64],
-) -> usize {
+) -> usize
+    ensures { λ x. ⌜ (now (out .exit), x) ≡ repeatedPut option (now (sizes .entry)) (now (readings .entry)) (now (out .entry), at) ⌝ }
+{
     let r = repeated::repeated_measures_anova(readings, sizes, option == 1);
     let refusal = r.refusal;
     if refusal.number != 0 {
@@ -21,7 +25,9 @@ pub fn repeated_measures(
     sphericity_lines(out, after_means, r)
 }
 
-fn effect_lines(out: &mut Out, at: usize, r: RmAnovaResult) -> usize {
+fn effect_lines(out: &mut Out, at: usize, r: RmAnovaResult) -> usize
+    ensures { λ x. ⌜ (now (out .exit), x) ≡ effectPut r (now (out .entry), at) ⌝ }
+{
     let w = r.within_subjects;
     let s = r.subjects;
     lines::numbers(
@@ -33,7 +39,9 @@ fn effect_lines(out: &mut Out, at: usize, r: RmAnovaResult) -> usize {
     )
 }
 
-fn rest_lines(out: &mut Out, at: usize, r: RmAnovaResult) -> usize {
+fn rest_lines(out: &mut Out, at: usize, r: RmAnovaResult) -> usize
+    ensures { λ x. ⌜ (now (out .exit), x) ≡ restPut r (now (out .entry), at) ⌝ }
+{
     let e = r.error;
     let t = r.total;
     lines::numbers(
@@ -56,50 +64,58 @@ fn rest_lines(out: &mut Out, at: usize, r: RmAnovaResult) -> usize {
     )
 }
 
-fn mean_lines(out: &mut Out, at: usize, r: RmAnovaResult) -> usize {
+fn mean_lines(out: &mut Out, at: usize, r: RmAnovaResult) -> usize
+    ensures { λ x. ⌜ (now (out .exit), x) ≡ meansPut r (now (out .entry), at) ⌝ }
+{
     let conditions = r.condition_means;
     let subjects = r.subject_means;
     let next = conditions_line(out, at, r.n_conditions, conditions);
     subjects_line(out, next, r.n_subjects, subjects)
 }
 
-fn conditions_line(out: &mut Out, at: usize, k: usize, means: [f64; 12]) -> usize {
+fn conditions_line(out: &mut Out, at: usize, k: usize, means: [f64; 12]) -> usize
+    ensures { λ x. ⌜ (now (out .exit), x) ≡ conditionsPut k means (now (out .entry), at) ⌝ }
+{
     if k > 12 {
         return at;
     }
     lines::list(out, at, b"condition_means@\n", [0; 3], &means[..k])
 }
 
-fn subjects_line(out: &mut Out, at: usize, n: usize, means: [f64; 64]) -> usize {
+fn subjects_line(out: &mut Out, at: usize, n: usize, means: [f64; 64]) -> usize
+    ensures { λ x. ⌜ (now (out .exit), x) ≡ subjectsPut n means (now (out .entry), at) ⌝ }
+{
     if n > 64 {
         return at;
     }
     lines::list(out, at, b"subject_means@\n", [0; 3], &means[..n])
 }
 
-fn sphericity_lines(out: &mut Out, at: usize, r: RmAnovaResult) -> usize {
-    if !r.has_sphericity {
-        return at;
+fn sphericity_lines(out: &mut Out, at: usize, r: RmAnovaResult) -> usize
+    ensures { λ x. ⌜ (now (out .exit), x) ≡ sphericityPut r (now (out .entry), at) ⌝ }
+{
+    if r.has_sphericity {
+        let s = r.sphericity;
+        let gg = r.greenhouse_geisser;
+        let hf = r.huynh_feldt;
+        return lines::numbers(
+            out,
+            at,
+            b"sphericity01\ngg2345\nhf6789\n",
+            [0; 3],
+            [
+                s.w,
+                s.df,
+                gg.epsilon,
+                gg.df_num_corrected,
+                gg.df_den_corrected,
+                gg.f_statistic,
+                hf.epsilon,
+                hf.df_num_corrected,
+                hf.df_den_corrected,
+                hf.f_statistic,
+            ],
+        );
     }
-    let s = r.sphericity;
-    let gg = r.greenhouse_geisser;
-    let hf = r.huynh_feldt;
-    lines::numbers(
-        out,
-        at,
-        b"sphericity01\ngg2345\nhf6789\n",
-        [0; 3],
-        [
-            s.w,
-            s.df,
-            gg.epsilon,
-            gg.df_num_corrected,
-            gg.df_den_corrected,
-            gg.f_statistic,
-            hf.epsilon,
-            hf.df_num_corrected,
-            hf.df_den_corrected,
-            hf.f_statistic,
-        ],
-    )
+    at
 }

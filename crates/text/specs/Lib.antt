@@ -1,3 +1,4 @@
+pub mod Ascii
 pub mod Numbers
 pub mod Put
 pub mod Meaning

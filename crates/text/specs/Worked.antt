@@ -1,27 +1,24 @@
 -- Worked texts.
 use mathlib.Core.Path.{_≡_, refl}
 use mathlib.Core.List.{[], _∷_}
+use Rattle.text.specs.Ascii.{ascii}
 use Rattle.text.specs.Numbers.{digits, hexOf, widthIn, widthOf, numeralOf}
 use Rattle.text.specs.Put.{putOf}
 
--- 0123456789ABCDEF
-hex-worked : hexOf 0x0123456789ABCDEF ≡ 48 ∷ 49 ∷ 50 ∷ 51 ∷ 52 ∷ 53 ∷ 54 ∷ 55 ∷ 56 ∷ 57 ∷ 65 ∷ 66 ∷ 67 ∷ 68 ∷ 69 ∷ 70 ∷ []
+hex-worked : hexOf 0x0123456789ABCDEF ≡ ascii "0123456789ABCDEF"
 unfolding hexOf digits
 hex-worked = refl
 
--- 0
-zero-worked : numeralOf 0 ≡ 48 ∷ []
+zero-worked : numeralOf 0 ≡ ascii "0"
 unfolding numeralOf widthOf widthIn digits
 zero-worked = refl
 
--- 1024
-numeral-worked : numeralOf 1024 ≡ 49 ∷ 48 ∷ 50 ∷ 52 ∷ []
+numeral-worked : numeralOf 1024 ≡ ascii "1024"
 unfolding numeralOf widthOf widthIn digits
 numeral-worked = refl
 
--- 18446744073709551615, the largest
-largest-worked : numeralOf 0xFFFFFFFFFFFFFFFF
-    ≡ 49 ∷ 56 ∷ 52 ∷ 52 ∷ 54 ∷ 55 ∷ 52 ∷ 52 ∷ 48 ∷ 55 ∷ 51 ∷ 55 ∷ 48 ∷ 57 ∷ 53 ∷ 53 ∷ 49 ∷ 54 ∷ 49 ∷ 53 ∷ []
+-- the largest of 64 bits
+largest-worked : numeralOf 0xFFFFFFFFFFFFFFFF ≡ ascii "18446744073709551615"
 unfolding numeralOf widthOf widthIn digits
 largest-worked = refl
 

@@ -1,22 +1,18 @@
 -- `designs::cells_line` meets its contract.
-use Prim.Native.Nat.{ℕ, _≤_, _<_, _-_, _+_, _*_}
-use mathlib.Core.Path.{_≡_, refl, sym, _∙_, ap}
+use Prim.Native.Nat.{_-_}
 use native.Mathlib.Omega.{arith}
 use borrow.Author.Needs.{needs}
-use lib.ListN.{length, length-set}
 use lib.ListN.{length-take}
 use Rattle.base.proofs.Bounds.{product-le}
+use Rattle.designs.proofs.Ways.{many-a, many-b, cells-listed}
 use Rattle.designs.proofs.cells_line.Statement.{statement}
 use Rattle.designs.proofs.cells_line.Tie as tie
-use Rattle.designs.proofs.cells_line.Reads as reads
-use Rattle.designs.proofs.cells_line.Lts as lts
-use Rattle.lines.proofs.list.Reads as list-reads
 
 returns : tie.Need-returns
-returns c = search needs
+returns c = many-a _ _ _ _ (c .if1 .taken)
 
 returns-2 : tie.Need-returns-2
-returns-2 c = search needs
+returns-2 c = many-b _ _ _ _ (c .before .if1 .left) (c .if2 .taken)
 
 slice-aggregate-list : tie.Need-slice-aggregate-list
 slice-aggregate-list c = search needs
@@ -34,7 +30,7 @@ list-requires : tie.Need-list-requires
 list-requires c κs = search needs
 
 returns-3 : tie.Need-returns-3
-returns-3 c = search needs
+returns-3 c = cells-listed _ _ _ _ (c .before .before .before .before .before .if1 .left) (c .before .before .before .before .if2 .left) (c .list .ensures)
 
 pub cells-line-spec : {M : Type 1} → statement M
 cells-line-spec =

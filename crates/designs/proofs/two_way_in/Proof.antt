@@ -1,23 +1,9 @@
 -- `designs::two_way_in` meets its contract.
-use Prim.Native.Nat.{ℕ, _≤_, _<_, _-_, _+_, _*_}
-use mathlib.Core.Path.{_≡_, refl, sym, _∙_, ap}
-use native.Mathlib.Omega.{arith}
+use Prim.Native.Nat.{_-_}
 use borrow.Author.Needs.{needs}
-use lib.ListN.{length, length-set}
-use lib.ListN.{length-take}
+use Rattle.designs.proofs.Ways.{two-way-told}
 use Rattle.designs.proofs.two_way_in.Statement.{statement}
 use Rattle.designs.proofs.two_way_in.Tie as tie
-use Rattle.designs.proofs.two_way_in.Reads as reads
-use Rattle.designs.proofs.two_way_in.Lts as lts
-use Rattle.designs.proofs.scratch_line.Reads as scratch-line-reads
-use Rattle.designs.proofs.two_way_lines.Reads as two-way-lines-reads
-use Rattle.twoway.proofs.two_way_anova.Reads as two-way-anova-reads
-
-array-borrow-prefix-scratch : tie.Need-array-borrow-prefix-scratch
-array-borrow-prefix-scratch c = search needs
-
-slice-aggregate-two-way-anova : tie.Need-slice-aggregate-two-way-anova
-slice-aggregate-two-way-anova c = simp length-take (omega (arith, c .before .before .before .before .pre))
 
 two-way-anova-requires : tie.Need-two-way-anova-requires
 two-way-anova-requires c κs = search needs
@@ -28,16 +14,19 @@ two-way-lines-requires c κs = search needs
 scratch-line-requires : tie.Need-scratch-line-requires
 scratch-line-requires c κs = search needs
 
+same-length : tie.Need-same-length
+same-length c = search needs
+
 returns : tie.Need-returns
-returns c = search needs
+returns c = let answered = c .before .before .before in
+    two-way-told _ _ _ _ _ (answered .before .before .before .before .two-way-anova .ensures) (answered .two-way-lines .ensures) (c .scratch-line .ensures)
 
 pub two-way-in-spec : {M : Type 1} → statement M
 two-way-in-spec =
     tie.close
     (tie.spec
-    array-borrow-prefix-scratch
-    slice-aggregate-two-way-anova
     two-way-anova-requires
     two-way-lines-requires
     scratch-line-requires
+    same-length
     returns)

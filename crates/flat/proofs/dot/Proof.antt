@@ -27,14 +27,20 @@ second c = place-within _ _ _ _ _ (roomy _ _ _ _ (sym (c .before .before .before
 lacks-requires : tie.Need-lacks-requires Inv-loop μ-loop
 lacks-requires c κs = search needs
 
+canon-requires : tie.Need-canon-requires Inv-loop μ-loop
+canon-requires c κs = search needs
+
 returns : tie.Need-returns Inv-loop μ-loop
-returns c = first-lacking _ _ _ _ _ _ _ _ (c .before .lacks .ensures) (c .if1 .taken)
+returns c = c .canon .ensures ∙ first-lacking _ _ _ _ _ _ _ _ (c .before .before .lacks .ensures) (c .before .if1 .taken)
 
 lacks-requires-2 : tie.Need-lacks-requires-2 Inv-loop μ-loop
 lacks-requires-2 c κs = search needs
 
+canon-requires-2 : tie.Need-canon-requires-2 Inv-loop μ-loop
+canon-requires-2 c κs = search needs
+
 returns-2 : tie.Need-returns-2 Inv-loop μ-loop
-returns-2 c = second-lacking _ _ _ _ _ _ _ _ (c .before .before .before .lacks .ensures) (c .before .before .if1 .left) (c .before .lacks2 .ensures) (c .if2 .taken)
+returns-2 c = c .canon2 .ensures ∙ second-lacking _ _ _ _ _ _ _ _ (c .before .before .before .before .lacks .ensures) (c .before .before .before .if1 .left) (c .before .before .lacks2 .ensures) (c .before .if2 .taken)
 
 loop-holds : tie.Need-loop-holds Inv-loop μ-loop
 unfolding dot
@@ -73,13 +79,13 @@ loop-less c = omega arith
 loop-again : tie.Need-loop-again Inv-loop μ-loop
 loop-again c = step _ _ _ _ _ _ (c .before .before .before .loop .inv) (c .before .before .loop-test .taken) refl
 
-canon-requires : tie.Need-canon-requires Inv-loop μ-loop
-canon-requires c κs = search needs
+canon-requires-3 : tie.Need-canon-requires-3 Inv-loop μ-loop
+canon-requires-3 c κs = search needs
 
 returns-3 : tie.Need-returns-3 Inv-loop μ-loop
 returns-3 c =
     let e = c .before in
-    none-lacking _ _ _ _ _ _ _ _ (e .before .before .before .before .before .lacks .ensures) (e .before .before .before .before .if1 .left) (e .before .before .before .lacks2 .ensures) (e .before .before .if2 .left) (c .canon .ensures ∙ ends _ _ _ _ _ (e .before .loop .inv) (e .loop-test .left))
+    none-lacking _ _ _ _ _ _ _ _ (e .before .before .before .before .before .lacks .ensures) (e .before .before .before .before .if1 .left) (e .before .before .before .lacks2 .ensures) (e .before .before .if2 .left) (c .canon3 .ensures ∙ ends _ _ _ _ _ (e .before .loop .inv) (e .loop-test .left))
 
 pub dot-spec : {M : Type 1} → statement M
 dot-spec =
@@ -88,8 +94,10 @@ dot-spec =
     Inv-loop
     μ-loop
     lacks-requires
+    canon-requires
     returns
     lacks-requires-2
+    canon-requires-2
     returns-2
     loop-holds
     mul-sum
@@ -103,5 +111,5 @@ dot-spec =
     add-m
     loop-less
     loop-again
-    canon-requires
+    canon-requires-3
     returns-3)

@@ -1,12 +1,13 @@
 -- `matrices::blocks::put` meets its contract.
-use Prim.Native.Nat.{_≤_, _-_, _+_, _*_}
+use Prim.Native.Nat.{_-_}
 use native.Mathlib.Omega.{arith}
 use borrow.Author.Needs.{needs}
+use Rattle.matrices.proofs.Rows.{Putting, put-starts, put-goes-on, block-told}
 use Rattle.matrices.proofs.blocks.put.Statement.{statement}
 use Rattle.matrices.proofs.blocks.put.Tie as tie
 
 abbrev Inv-loop : tie.InvT-loop
-Inv-loop out₀ at name m b next₀ start₀ i₀ t9 t10 out next start i = (i ≤ b .rows) × (start ≤ 24 + 48 * i)
+Inv-loop out₀ at name m b next₀ start₀ i₀ t9 t10 out next start i = Putting b m i start (out, next) (out₀, next₀)
 
 abbrev μ-loop : tie.MeasureT-loop
 μ-loop out₀ at name m b next₀ start₀ i₀ t9 t10 out next start i = b .rows - i
@@ -15,7 +16,7 @@ put-requires : tie.Need-put-requires Inv-loop μ-loop
 put-requires c κs = search needs
 
 loop-holds : tie.Need-loop-holds Inv-loop μ-loop
-loop-holds c = (omega arith, omega arith)
+loop-holds c = put-starts (c .before .before .before .before .pre .0) _ _
 
 slice-aggregate-list : tie.Need-slice-aggregate-list Inv-loop μ-loop
 slice-aggregate-list c = search needs
@@ -48,7 +49,10 @@ loop-less : tie.Need-loop-less Inv-loop μ-loop
 loop-less c = omega arith
 
 loop-again : tie.Need-loop-again Inv-loop μ-loop
-loop-again c = (omega arith, omega arith)
+loop-again c =
+    let turn = c .before .before .before .before .before .before in
+    let at = turn .before .before in
+    put-goes-on (at .before .before .before .before .before .pre .0) _ _ _ _ _ (at .loop .inv) _ (turn .if1 .taken) (c .before .list .ensures)
 
 slice-aggregate-put : tie.Need-slice-aggregate-put Inv-loop μ-loop
 slice-aggregate-put c = search needs
@@ -57,7 +61,9 @@ put-requires-2 : tie.Need-put-requires-2 Inv-loop μ-loop
 put-requires-2 c κs = search needs
 
 returns : tie.Need-returns Inv-loop μ-loop
-returns c = search needs
+returns c = let out = c .before .before .before in
+    let at = out .before .before in
+    block-told _ _ _ _ _ _ _ _ (at .before .put .ensures) (at .loop .inv) (out .if1 .left) (c .put2 .ensures)
 
 pub put-spec : {M : Type 1} → statement M
 put-spec =

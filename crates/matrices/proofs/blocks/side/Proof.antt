@@ -2,11 +2,12 @@
 use Prim.Native.Nat.{_≤_, _-_, _+_}
 use native.Mathlib.Omega.{arith}
 use Rattle.base.proofs.Bounds.{product-le}
+use Rattle.matrices.proofs.Rows.{many-rows, rows-unlike, rows-told}
 use Rattle.matrices.proofs.blocks.side.Statement.{statement}
 use Rattle.matrices.proofs.blocks.side.Tie as tie
 
 returns : tie.Need-returns
-returns c = (omega arith, omega arith)
+returns c = (many-rows _ _ _ _ (c .if1 .taken), (omega arith, omega arith))
 
 add-if2 : tie.Need-add-if2
 add-if2 c = omega arith
@@ -17,10 +18,10 @@ mul-if2 c = let n = c .before .args .option in
     let k : n ≤ 24 = omega arith in omega (arith, product-le 24 25 k h)
 
 returns-2 : tie.Need-returns-2
-returns-2 c = (omega arith, omega arith)
+returns-2 c = (rows-unlike _ _ _ _ (c .before .if1 .left) (c .if2 .taken), (omega arith, omega arith))
 
 returns-3 : tie.Need-returns-3
-returns-3 c = let k = c .before .if1 .left in (omega arith, product-le _ _ k k)
+returns-3 c = let k = c .before .if1 .left in (rows-told _ _ _ _ k (c .if2 .left), (omega arith, product-le _ _ k k))
 
 pub side-spec : {M : Type 1} → statement M
 side-spec = tie.close (tie.spec returns add-if2 mul-if2 returns-2 returns-3)

@@ -3,6 +3,9 @@ use Prim.Native.Nat.{_-_}
 use native.Mathlib.Omega.{arith}
 use borrow.Author.Needs.{needs}
 use lib.ListN.{length-take}
+use Rattle.matrices.specs.Layouts.{blank}
+use Rattle.matrices.specs.Answers.{eigenvaluesPut}
+use Rattle.matrices.proofs.Ways.{bad-told, good-told, values-told}
 use Rattle.matrices.proofs.spectra.eigenvalues.Statement.{statement}
 use Rattle.matrices.proofs.spectra.eigenvalues.Tie as tie
 
@@ -13,7 +16,8 @@ bad-case-requires : tie.Need-bad-case-requires
 bad-case-requires c κs = search needs
 
 returns : tie.Need-returns
-returns c = search needs
+unfolding eigenvaluesPut
+returns c = bad-told _ _ _ (c .before .before .before .side .ensures .0) (c .before .before .if1 .taken) (c .bad-case .ensures)
 
 slice-aggregate-lay-row : tie.Need-slice-aggregate-lay-row
 slice-aggregate-lay-row c = search needs
@@ -46,7 +50,13 @@ list-requires : tie.Need-list-requires
 list-requires c κs = search needs
 
 returns-2 : tie.Need-returns-2
-returns-2 c = search needs
+unfolding eigenvaluesPut blank
+returns-2 c =
+    let values = c .before .before .before .before .before .before in
+    let lay = values .before .before .before .before in
+    let good = lay .before .before in
+    good-told _ _ _ (good .before .side .ensures .0) (good .if1 .left)
+    (values-told _ _ _ (lay .lay-row .ensures) (values .compute-eigenvalues .ensures) (c .list .ensures))
 
 pub eigenvalues-spec : {M : Type 1} → statement M
 eigenvalues-spec =

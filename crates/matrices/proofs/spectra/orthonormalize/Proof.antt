@@ -3,6 +3,9 @@ use Prim.Native.Nat.{_-_}
 use native.Mathlib.Omega.{arith}
 use borrow.Author.Needs.{needs}
 use lib.ListN.{length-take}
+use Rattle.matrices.specs.Layouts.{blank}
+use Rattle.matrices.specs.Answers.{orthonormalizePut}
+use Rattle.matrices.proofs.Ways.{bad-told, good-told, rows-made}
 use Rattle.matrices.proofs.spectra.orthonormalize.Statement.{statement}
 use Rattle.matrices.proofs.spectra.orthonormalize.Tie as tie
 
@@ -19,7 +22,8 @@ bad-case-requires : tie.Need-bad-case-requires
 bad-case-requires c κs = search needs
 
 returns : tie.Need-returns
-returns c = search needs
+unfolding orthonormalizePut
+returns c = bad-told _ _ _ (c .before .before .before .taken .ensures .0) (c .before .before .if1 .taken) (c .bad-case .ensures)
 
 slice-aggregate-lay-row : tie.Need-slice-aggregate-lay-row
 slice-aggregate-lay-row c = search needs
@@ -46,7 +50,13 @@ list-requires : tie.Need-list-requires
 list-requires c κs = search needs
 
 returns-2 : tie.Need-returns-2
-returns-2 c = search needs
+unfolding orthonormalizePut blank
+returns-2 c =
+    let made = c .before .before .before .before .before in
+    let lay = made .before .before .before in
+    let good = lay .before .before in
+    good-told _ _ _ (good .before .taken .ensures .0) (good .if1 .left)
+    (rows-made _ _ _ _ _ (lay .lay-row .ensures) (made .orthonormalize .ensures) (c .list .ensures))
 
 pub orthonormalize-spec : {M : Type 1} → statement M
 orthonormalize-spec =

@@ -3,6 +3,9 @@ use Prim.Native.Nat.{_-_}
 use native.Mathlib.Omega.{arith}
 use borrow.Author.Needs.{needs}
 use lib.ListN.{length-take}
+use Rattle.matrices.specs.Layouts.{blank}
+use Rattle.matrices.specs.Answers.{qrPut}
+use Rattle.matrices.proofs.Ways.{bad-told, good-told, factors-told}
 use Rattle.matrices.proofs.spectra.qr.Statement.{statement}
 use Rattle.matrices.proofs.spectra.qr.Tie as tie
 
@@ -13,7 +16,8 @@ bad-case-requires : tie.Need-bad-case-requires
 bad-case-requires c κs = search needs
 
 returns : tie.Need-returns
-returns c = search needs
+unfolding qrPut
+returns c = bad-told _ _ _ (c .before .before .before .side .ensures .0) (c .before .before .if1 .taken) (c .bad-case .ensures)
 
 slice-aggregate-qr-decomposition : tie.Need-slice-aggregate-qr-decomposition
 slice-aggregate-qr-decomposition c = search needs
@@ -55,7 +59,13 @@ list-requires-2 : tie.Need-list-requires-2
 list-requires-2 c κs = search needs
 
 returns-2 : tie.Need-returns-2
-returns-2 c = search needs
+unfolding qrPut blank
+returns-2 c =
+    let first = c .before .before .before .before in
+    let qr = first .before .before .before .before .before .before in
+    let good = qr .before .before .before in
+    good-told _ _ _ (good .before .side .ensures .0) (good .if1 .left)
+    (factors-told _ _ _ (qr .qr-decomposition .ensures) (first .list .ensures) (c .list2 .ensures))
 
 pub qr-spec : {M : Type 1} → statement M
 qr-spec =
