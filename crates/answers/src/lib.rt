@@ -7,6 +7,8 @@ mod sheets;
 mod views;
 
 use lines::Out;
+ghost use mathlib.Core.Path.{_≡_};
+ghost use Rattle.answers.specs.Answers.{answerPut};
 
 // The kinds 1 to 4, 8 to 10 and 17. The list `a` has the edits of a sheet.
 pub fn answer(
@@ -17,7 +19,9 @@ pub fn answer(
     sizes: &[u32],
     a: &[u32],
     readings: &[f64],
-) -> usize {
+) -> usize
+    ensures { λ x. ⌜ (now (out .exit), x) ≡ answerPut kind option (now (sizes .entry)) (now (a .entry)) (now (readings .entry)) (now (out .entry), at) ⌝ }
+{
     match kind {
         1 => figures::mean(out, at, readings),
         2 => figures::variance(out, at, readings),

@@ -3,27 +3,39 @@ use lines::Out;
 use oneway::AnovaKind;
 use results::OneWayAnovaResult;
 ghost use Prim.Native.Nat.{_≤_};
+ghost use mathlib.Core.Path.{_≡_};
+ghost use Rattle.answers.specs.OneWay.{sizesPut, groupsPut, reportPut, fisherLines, welchLines, fisherPut, welchPut};
 
-pub fn fisher(out: &mut Out, at: usize, sizes: &[u32], readings: &[f64]) -> usize {
+pub fn fisher(out: &mut Out, at: usize, sizes: &[u32], readings: &[f64]) -> usize
+    ensures { λ x. ⌜ (now (out .exit), x) ≡ fisherPut (now (sizes .entry)) (now (readings .entry)) (now (out .entry), at) ⌝ }
+{
     let r = oneway::one_way_anova(readings, sizes, AnovaKind::Fisher);
     fisher_lines(out, at, r)
 }
 
-pub fn welch(out: &mut Out, at: usize, sizes: &[u32], readings: &[f64]) -> usize {
+pub fn welch(out: &mut Out, at: usize, sizes: &[u32], readings: &[f64]) -> usize
+    ensures { λ x. ⌜ (now (out .exit), x) ≡ welchPut (now (sizes .entry)) (now (readings .entry)) (now (out .entry), at) ⌝ }
+{
     let r = oneway::one_way_anova(readings, sizes, AnovaKind::Welch);
     welch_lines(out, at, r)
 }
 
-pub fn fisher_lines(out: &mut Out, at: usize, r: OneWayAnovaResult) -> usize {
+pub fn fisher_lines(out: &mut Out, at: usize, r: OneWayAnovaResult) -> usize
+    ensures { λ x. ⌜ (now (out .exit), x) ≡ fisherLines r (now (out .entry), at) ⌝ }
+{
     report(out, at, b"fisherAB\nss012\ndf34\nms56\nf7\ngrand8\n", r)
 }
 
-pub fn welch_lines(out: &mut Out, at: usize, r: OneWayAnovaResult) -> usize {
+pub fn welch_lines(out: &mut Out, at: usize, r: OneWayAnovaResult) -> usize
+    ensures { λ x. ⌜ (now (out .exit), x) ≡ welchLines r (now (out .entry), at) ⌝ }
+{
     report(out, at, b"welchAB\ndf34\nf7\n", r)
 }
 
 // The lines of an answer: the numbers that the form asks for, and the groups.
-fn report(out: &mut Out, at: usize, form: &[u8], r: OneWayAnovaResult) -> usize {
+fn report(out: &mut Out, at: usize, form: &[u8], r: OneWayAnovaResult) -> usize
+    ensures { λ x. ⌜ (now (out .exit), x) ≡ reportPut (now (form .entry)) r (now (out .entry), at) ⌝ }
+{
     let refusal = r.refusal;
     if refusal.number != 0 {
         return lines::refused(out, at, refusal);
@@ -48,7 +60,9 @@ fn report(out: &mut Out, at: usize, form: &[u8], r: OneWayAnovaResult) -> usize 
 }
 
 // The sizes and the means of the n groups.
-fn groups(out: &mut Out, at: usize, n: usize, sizes: [u32; 16], means: [f64; 16]) -> usize {
+fn groups(out: &mut Out, at: usize, n: usize, sizes: [u32; 16], means: [f64; 16]) -> usize
+    ensures { λ x. ⌜ (now (out .exit), x) ≡ groupsPut n sizes means (now (out .entry), at) ⌝ }
+{
     if n > 16 {
         return at;
     }
@@ -59,6 +73,7 @@ fn groups(out: &mut Out, at: usize, n: usize, sizes: [u32; 16], means: [f64; 16]
 
 fn each_size(out: &mut Out, at: usize, n: usize, sizes: [u32; 16]) -> usize
     requires { ⌜ n ≤ 16 ⌝ }
+    ensures { λ x. ⌜ (now (out .exit), x) ≡ sizesPut n sizes (now (out .entry), at) ⌝ }
 {
     let mut next = at;
     let mut g = 0;

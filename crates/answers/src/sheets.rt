@@ -5,7 +5,10 @@ use lines::Out;
 use oneway::AnovaKind;
 use sheet::Edit;
 use sheet::Sheet;
-ghost use Prim.Native.Nat.{_≤_};
+ghost use mathlib.Core.Path.{_≡_};
+ghost use Prim.Native.Nat.{min};
+ghost use Rattle.sheet.specs.Calls.{callOf};
+ghost use Rattle.answers.specs.Sheets.{callFor, takes, newReading, verdictPut, editsPut, rowsPut, placesPut, wholePut, sheetPut};
 
 // A sheet, and the place behind the lines that were put.
 pub struct Progress {
@@ -21,7 +24,9 @@ pub fn sheet(
     sizes: &[u32],
     edits: &[u32],
     readings: &[f64],
-) -> usize {
+) -> usize
+    ensures { λ x. ⌜ (now (out .exit), x) ≡ sheetPut option (now (sizes .entry)) (now (edits .entry)) (now (readings .entry)) (now (out .entry), at) ⌝ }
+{
     let n = least(option as usize, readings.len());
     let loaded = Sheet::load(&readings[..n], sizes);
     let r = loaded.refusal;
@@ -34,7 +39,9 @@ pub fn sheet(
 }
 
 // The edits in their order, a line for each. An edit is three numbers; one that is not whole is passed over.
-fn edited(out: &mut Out, at: usize, s: Sheet, edits: &[u32], new: &[f64]) -> Progress {
+fn edited(out: &mut Out, at: usize, s: Sheet, edits: &[u32], new: &[f64]) -> Progress
+    ensures { λ x. ⌜ ((now (out .exit), x .at), x .sheet) ≡ editsPut (now (new .entry)) (now (edits .entry)) 0 s (now (out .entry), at) ⌝ }
+{
     let mut next = at;
     let mut sheet = s;
     let mut used = 0;
@@ -54,7 +61,9 @@ fn edited(out: &mut Out, at: usize, s: Sheet, edits: &[u32], new: &[f64]) -> Pro
 }
 
 // One edit: 1 replaces, 2 appends, and any other number removes.
-fn call(s: Sheet, op: u32, group: u32, place: u32, x: f64) -> Edit {
+fn call(s: Sheet, op: u32, group: u32, place: u32, x: f64) -> Edit
+    ensures { λ r. ⌜ r ≡ callOf (callFor op group place x) s ⌝ }
+{
     match op {
         1 => s.replace(group as usize, place as usize, x),
         2 => s.append(group as usize, x),
@@ -64,16 +73,21 @@ fn call(s: Sheet, op: u32, group: u32, place: u32, x: f64) -> Edit {
 
 // How many new readings an edit takes.
 fn takes(op: u32) -> usize
-    ensures { λ r. ⌜ r ≤ 1 ⌝ }
+    ensures { λ r. ⌜ r ≡ takes op ⌝ }
 {
-    match op {
-        1 | 2 => 1,
-        _ => 0,
+    if op == 1 {
+        return 1;
     }
+    if op == 2 {
+        return 1;
+    }
+    0
 }
 
 // A new reading; +0.0 where it is missing.
-fn reading(new: &[f64], i: usize) -> f64 {
+fn reading(new: &[f64], i: usize) -> f64
+    ensures { λ r. ⌜ r ≡ newReading (now (new .entry)) i ⌝ }
+{
     if i < new.len() {
         return new[i];
     }
@@ -81,7 +95,9 @@ fn reading(new: &[f64], i: usize) -> f64 {
 }
 
 // What an edit said.
-fn verdict(out: &mut Out, at: usize, e: Edit) -> usize {
+fn verdict(out: &mut Out, at: usize, e: Edit) -> usize
+    ensures { λ x. ⌜ (now (out .exit), x) ≡ verdictPut e (now (out .entry), at) ⌝ }
+{
     let r = e.refusal;
     lines::numbers(
         out,
@@ -93,7 +109,9 @@ fn verdict(out: &mut Out, at: usize, e: Edit) -> usize {
 }
 
 // The sheet at the end: its rows, the places in use, and both reports.
-fn whole(out: &mut Out, at: usize, s: Sheet) -> usize {
+fn whole(out: &mut Out, at: usize, s: Sheet) -> usize
+    ensures { λ x. ⌜ (now (out .exit), x) ≡ wholePut s (now (out .entry), at) ⌝ }
+{
     let fisher = s.report(AnovaKind::Fisher);
     let list = s.rows;
     let readings = s.places;
@@ -104,7 +122,9 @@ fn whole(out: &mut Out, at: usize, s: Sheet) -> usize {
 }
 
 // A line for each of the n rows.
-fn rows(out: &mut Out, at: usize, list: [Row; 16], n: usize) -> usize {
+fn rows(out: &mut Out, at: usize, list: [Row; 16], n: usize) -> usize
+    ensures { λ x. ⌜ (now (out .exit), x) ≡ rowsPut n list (now (out .entry), at) ⌝ }
+{
     if n > 16 {
         return at;
     }
@@ -125,7 +145,9 @@ fn rows(out: &mut Out, at: usize, list: [Row; 16], n: usize) -> usize {
 }
 
 // The first n places.
-fn places(out: &mut Out, at: usize, list: [f64; 512], n: usize) -> usize {
+fn places(out: &mut Out, at: usize, list: [f64; 512], n: usize) -> usize
+    ensures { λ x. ⌜ (now (out .exit), x) ≡ placesPut n list (now (out .entry), at) ⌝ }
+{
     if n > 512 {
         return at;
     }
@@ -134,7 +156,7 @@ fn places(out: &mut Out, at: usize, list: [f64; 512], n: usize) -> usize {
 
 // The smaller of two numbers.
 fn least(a: usize, b: usize) -> usize
-    ensures { λ r. ⌜ (r ≤ a) × (r ≤ b) ⌝ }
+    ensures { λ r. ⌜ r ≡ min a b ⌝ }
 {
     if a < b { a } else { b }
 }

@@ -3,11 +3,12 @@ use Prim.Native.Nat.{_-_}
 use native.Mathlib.Omega.{arith}
 use borrow.Author.Needs.{needs}
 use lib.ListN.{length-take}
+use Rattle.answers.proofs.Ways.{many-groups, groups-listed}
 use Rattle.answers.proofs.one_way.groups.Statement.{statement}
 use Rattle.answers.proofs.one_way.groups.Tie as tie
 
 returns : tie.Need-returns
-returns c = search needs
+returns c = many-groups _ _ _ _ (c .if1 .taken)
 
 slice-aggregate-put : tie.Need-slice-aggregate-put
 slice-aggregate-put c = search needs
@@ -31,7 +32,7 @@ list-requires : tie.Need-list-requires
 list-requires c κs = search needs
 
 returns-2 : tie.Need-returns-2
-returns-2 c = search needs
+returns-2 c = groups-listed _ _ _ _ (c .before .before .before .before .before .before .before .before .before .if1 .left) (c .before .before .before .before .before .before .put .ensures) (c .before .before .before .before .each-size .ensures) (c .list .ensures)
 
 pub groups-spec : {M : Type 1} → statement M
 groups-spec =

@@ -1,13 +1,19 @@
 -- `answers::roots::roots` meets its contract.
 use Prim.Native.Nat.{_≤_, _-_}
+use mathlib.Core.Path.{_≡_, refl}
 use native.Mathlib.Omega.{arith}
 use borrow.Author.Needs.{needs}
 use lib.ListN.{length}
+use Rattle.base.specs.Loop.{loop}
+use Rattle.base.proofs.Loops.{step, ends}
+use Rattle.answers.specs.Roots.{rootPut}
+use Rattle.answers.proofs.Ways.{root-told, roots-told}
 use Rattle.answers.proofs.roots.roots.Statement.{statement}
 use Rattle.answers.proofs.roots.roots.Tie as tie
 
 abbrev Inv-loop : tie.InvT-loop
-Inv-loop out₀ at readings next₀ i₀ t8 t9 out next i = i ≤ length readings
+Inv-loop out₀ at readings next₀ i₀ t8 t9 out next i =
+    (i ≤ length readings) × (loop i (length readings) (rootPut readings) (out, next) ≡ loop 0 (length readings) (rootPut readings) (out₀, next₀))
 
 abbrev μ-loop : tie.MeasureT-loop
 μ-loop out₀ at readings next₀ i₀ t8 t9 out next i = length readings - i
@@ -19,7 +25,7 @@ put-requires : tie.Need-put-requires Inv-loop μ-loop
 put-requires c κs = search needs
 
 loop-holds : tie.Need-loop-holds Inv-loop μ-loop
-loop-holds c = search needs
+loop-holds c = (omega arith, refl)
 
 mul-sqrt : tie.Need-mul-sqrt Inv-loop μ-loop
 mul-sqrt c = omega arith
@@ -43,7 +49,9 @@ loop-less : tie.Need-loop-less Inv-loop μ-loop
 loop-less c = omega arith
 
 loop-again : tie.Need-loop-again Inv-loop μ-loop
-loop-again c = search needs
+loop-again c =
+    let at = c .before .before .before .before .before .before in
+    (omega arith, step _ _ _ _ _ _ (at .loop .inv .1) (c .before .before .before .before .before .loop-test .taken) (root-told (at .before .before .before .before .before .args .readings .now) (at .loop .out, at .loop .next) (at .loop .i) (c .before .before .before .sqrt .ensures) (c .numbers .ensures)))
 
 slice-aggregate-put-2 : tie.Need-slice-aggregate-put-2 Inv-loop μ-loop
 slice-aggregate-put-2 c = search needs
@@ -52,7 +60,9 @@ put-requires-2 : tie.Need-put-requires-2 Inv-loop μ-loop
 put-requires-2 c κs = search needs
 
 returns : tie.Need-returns Inv-loop μ-loop
-returns c = search needs
+returns c =
+    let left = c .before .before .before in
+    roots-told _ _ (left .before .before .put .ensures) (ends _ _ _ _ _ (left .before .loop .inv .1) (left .loop-test .left)) (c .put2 .ensures)
 
 pub roots-spec : {M : Type 1} → statement M
 roots-spec =

@@ -1,19 +1,23 @@
 -- `answers::sheets::edited` meets its contract.
 use Prim.Native.Nat.{_≤_, _-_}
+use mathlib.Core.Path.{_≡_, refl, _∙_}
 use native.Mathlib.Omega.{arith}
 use borrow.Author.Needs.{needs}
-use lib.ListN.{length}
+use lib.ListN.{length, drop}
+use Rattle.answers.specs.Sheets.{editsPut}
+use Rattle.answers.proofs.Edits.{few-taken, edit-turn, edits-done}
 use Rattle.answers.proofs.sheets.edited.Statement.{statement}
 use Rattle.answers.proofs.sheets.edited.Tie as tie
 
 abbrev Inv-loop : tie.InvT-loop
-Inv-loop out₀ at edits new next₀ sheet₀ used₀ i₀ out next sheet used i = (i ≤ length edits) × (used ≤ i)
+Inv-loop out₀ at edits new next₀ sheet₀ used₀ i₀ out next sheet used i =
+    (i ≤ length edits) × (used ≤ i) × (editsPut new (drop i edits) used sheet (out, next) ≡ editsPut new edits 0 sheet₀ (out₀, at))
 
 abbrev μ-loop : tie.MeasureT-loop
 μ-loop out₀ at edits new next₀ sheet₀ used₀ i₀ out next sheet used i = length edits - i
 
 loop-holds : tie.Need-loop-holds Inv-loop μ-loop
-loop-holds c = (omega arith, omega arith)
+loop-holds c = (omega arith, omega arith, refl)
 
 add-loop : tie.Need-add-loop Inv-loop μ-loop
 add-loop c = omega arith
@@ -55,7 +59,7 @@ takes-requires : tie.Need-takes-requires Inv-loop μ-loop
 takes-requires c κs = search needs
 
 add-used : tie.Need-add-used Inv-loop μ-loop
-add-used c = omega arith
+add-used c = omega (arith, few-taken _ (c .takes .ensures))
 
 add-i : tie.Need-add-i Inv-loop μ-loop
 add-i c = omega arith
@@ -64,10 +68,12 @@ loop-less : tie.Need-loop-less Inv-loop μ-loop
 loop-less c = omega arith
 
 loop-again : tie.Need-loop-again Inv-loop μ-loop
-loop-again c = (omega arith, omega (arith, c .takes .ensures))
+loop-again c =
+    let at = c .before .before .before .before .before .before .before .before .before .before in
+    (omega arith, omega (arith, few-taken _ (c .takes .ensures)), edit-turn _ _ _ _ _ _ (c .before .before .before .before .before .before .before .before .before .loop-test .taken) (c .before .before .before .before .before .reading .ensures) (c .before .before .before .before .call .ensures) (c .before .before .verdict .ensures) (c .takes .ensures) ∙ at .loop .inv .2)
 
 returns : tie.Need-returns Inv-loop μ-loop
-returns c = search needs
+returns c = edits-done _ _ _ _ _ _ (c .loop-test .left) ∙ c .before .loop .inv .2
 
 pub edited-spec : {M : Type 1} → statement M
 edited-spec =

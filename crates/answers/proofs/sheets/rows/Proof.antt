@@ -1,21 +1,26 @@
 -- `answers::sheets::rows` meets its contract.
 use Prim.Native.Nat.{_≤_, _-_}
+use mathlib.Core.Path.{_≡_, refl}
 use native.Mathlib.Omega.{arith}
 use borrow.Author.Needs.{needs}
+use Rattle.base.specs.Loop.{loop}
+use Rattle.base.proofs.Loops.{step, ends}
+use Rattle.answers.specs.Sheets.{rowPut}
+use Rattle.answers.proofs.Ways.{many-rows, rows-listed}
 use Rattle.answers.proofs.sheets.rows.Statement.{statement}
 use Rattle.answers.proofs.sheets.rows.Tie as tie
 
 abbrev Inv-loop : tie.InvT-loop
-Inv-loop out₀ at n list next₀ g₀ t9 out next g = g ≤ n
+Inv-loop out₀ at n list next₀ g₀ t9 out next g = (g ≤ n) × (loop g n (rowPut list) (out, next) ≡ loop 0 n (rowPut list) (out₀, at))
 
 abbrev μ-loop : tie.MeasureT-loop
 μ-loop out₀ at n list next₀ g₀ t9 out next g = n - g
 
 returns : tie.Need-returns Inv-loop μ-loop
-returns c = search needs
+returns c = many-rows _ _ _ (c .if1 .taken)
 
 loop-holds : tie.Need-loop-holds Inv-loop μ-loop
-loop-holds c = search needs
+loop-holds c = (omega arith, refl)
 
 mul-row : tie.Need-mul-row Inv-loop μ-loop
 mul-row c = omega arith
@@ -39,10 +44,12 @@ loop-less : tie.Need-loop-less Inv-loop μ-loop
 loop-less c = omega arith
 
 loop-again : tie.Need-loop-again Inv-loop μ-loop
-loop-again c = search needs
+loop-again c =
+    let at = c .before .before .before .before .before .before in
+    (omega arith, step _ _ _ _ _ _ (at .loop .inv .1) (c .before .before .before .before .before .loop-test .taken) (c .numbers .ensures))
 
 returns-2 : tie.Need-returns-2 Inv-loop μ-loop
-returns-2 c = search needs
+returns-2 c = rows-listed _ _ _ (c .before .before .if1 .left) (ends _ _ _ _ _ (c .before .loop .inv .1) (c .loop-test .left))
 
 pub rows-spec : {M : Type 1} → statement M
 rows-spec =

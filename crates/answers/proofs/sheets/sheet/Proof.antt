@@ -3,6 +3,7 @@ use Prim.Native.Nat.{_-_}
 use native.Mathlib.Omega.{arith}
 use borrow.Author.Needs.{needs}
 use lib.ListN.{length-take}
+use Rattle.answers.proofs.Ways.{load-refused, sheet-told}
 use Rattle.answers.proofs.sheets.sheet.Statement.{statement}
 use Rattle.answers.proofs.sheets.sheet.Tie as tie
 
@@ -19,7 +20,9 @@ refused-requires : tie.Need-refused-requires
 refused-requires c κs = search needs
 
 returns : tie.Need-returns
-returns c = search needs
+returns c =
+    let loaded = c .before .before .before .before .before in
+    load-refused _ _ _ _ _ (loaded .before .before .least .ensures) (loaded .load .ensures) (c .before .before .if1 .taken) (c .refused .ensures)
 
 slice-aggregate-numbers : tie.Need-slice-aggregate-numbers
 slice-aggregate-numbers c = search needs
@@ -46,7 +49,11 @@ whole-requires : tie.Need-whole-requires
 whole-requires c κs = search needs
 
 returns-2 : tie.Need-returns-2
-returns-2 c = search needs
+returns-2 c =
+    let put = c .before .before .before .before .before in
+    let accepted = put .before .before .before in
+    let loaded = accepted .before .before .before in
+    sheet-told _ _ _ _ _ (loaded .before .before .least .ensures) (loaded .load .ensures) (accepted .if1 .left) (put .numbers .ensures) (c .before .before .edited .ensures) (c .whole .ensures)
 
 pub sheet-spec : {M : Type 1} → statement M
 sheet-spec =
