@@ -102,14 +102,6 @@ module _ (n : ℕ) (s : Lines) where
   unfolding rowsPut
   rows-listed rows h e = rw (le-leb n 16 h) e
 
-  pub many-places : (list : List Float) → 512 < n → s ≡ placesPut n list s
-  unfolding placesPut
-  many-places list h = rw (lt-leb n 512 h)
-
-  pub places-listed : (list : List Float) {t : Lines} → n ≤ 512 → t ≡ formPut noCounts (take n list) s (ascii "places@\n") → t ≡ placesPut n list s
-  unfolding placesPut
-  places-listed list h e = rw (le-leb n 512 h) e
-
 -- f and w are the two reports
 pub whole-told : (sheet : Sheet) (s : Lines) {f w : OneWayAnovaResult} {a b c d : Lines} → f ≡ reportOf Fisher sheet → w ≡ reportOf Welch sheet
     → a ≡ rowsPut (sheet .groups) (sheet .rows) s → b ≡ placesPut (f .«n_total») (sheet .places) a → c ≡ fisherLines f b → d ≡ welchLines w c → d ≡ wholePut sheet s

@@ -13,7 +13,7 @@ use Rattle.sheet.specs.declared.Sheet.{Sheet}
 use Rattle.sheet.specs.declared.Edit.{Edit}
 use Rattle.sheet.specs.Calls.{Call, callOf, loadOf, reportOf}
 use Rattle.text.specs.Ascii.{ascii}
-use Rattle.lines.specs.Forms.{Lines, formPut, noCounts, refusedPut}
+use Rattle.lines.specs.Forms.{Lines, formPut, noCounts, refusedPut, firstsPut}
 use Rattle.answers.specs.OneWay.{fisherLines, welchLines}
 
 -- an edit: 1 replaces, 2 appends, and any other number removes
@@ -51,8 +51,8 @@ unfoldable pub rowsPut : ℕ → List Row → Lines → Lines
 rowsPut n rows s = cond (leb n 16) (loop 0 n (rowPut rows) s) s
 
 -- the first n places
-unfoldable pub placesPut : ℕ → List Float → Lines → Lines
-placesPut n places s = cond (leb n 512) (formPut noCounts (take n places) s (ascii "places@\n")) s
+abbrev pub placesPut : ℕ → List Float → Lines → Lines
+placesPut n places s = firstsPut (ascii "places@\n") n places s
 
 -- the sheet at the end: its rows, the places in use, and both reports
 unfoldable pub wholePut : Sheet → Lines → Lines

@@ -148,10 +148,7 @@ fn rows(out: &mut Out, at: usize, list: [Row; 16], n: usize) -> usize
 fn places(out: &mut Out, at: usize, list: [f64; 512], n: usize) -> usize
     ensures { λ x. ⌜ (now (out .exit), x) ≡ placesPut n list (now (out .entry), at) ⌝ }
 {
-    if n > 512 {
-        return at;
-    }
-    lines::list(out, at, b"places@\n", [0; 3], &list[..n])
+    lines::firsts(out, at, b"places@\n", n, &list)
 }
 
 // The smaller of two numbers.

@@ -38,7 +38,7 @@ levelsRefusal a b =
     orElse when (ltb a 2) (refuse 6 1 a)
     orElse when (ltb b 2) (refuse 6 2 b)
 
--- cell number c, where factor B has b levels: n is no reading
+-- cell number c has n readings, where factor B has b levels: it is refused where it has none
 abbrev pub emptyFault : ℕ → ℕ → ℕ → Refusal
 emptyFault b c n = when (eqb n 0) (refuse 7 (c / b) (c % b))
 

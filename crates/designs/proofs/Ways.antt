@@ -33,15 +33,6 @@ module _ (a b : ℕ) (means : List Float) (s : Lines) where
   unfolding cellsPut
   cells-listed h k e = rw (le-leb a 6 h, le-leb b 6 k) e
 
-module _ (form : List ℕ) (n : ℕ) (means : List Float) (s : Lines) where
-  pub many-levels : 6 < n → s ≡ marginsPut form n means s
-  unfolding marginsPut
-  many-levels h = rw (lt-leb n 6 h)
-
-  pub margins-listed : {t : Lines} → n ≤ 6 → t ≡ formPut noCounts (take n means) s form → t ≡ marginsPut form n means s
-  unfolding marginsPut
-  margins-listed h e = rw (le-leb n 6 h) e
-
 module _ (r : TwoWayAnovaResult) (s : Lines) where
   pub means-told :
       {u v w t : Lines} →

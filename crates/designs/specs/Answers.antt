@@ -8,7 +8,7 @@ use lib.Ieee.{Float, binary64, toBits}
 use lib.ListN.{take, replicate}
 use Rattle.float.specs.Words.{bits, plusZero}
 use Rattle.text.specs.Ascii.{ascii}
-use Rattle.lines.specs.Forms.{Lines, wordsPut, formPut, noCounts, noDoubles, refusedPut}
+use Rattle.lines.specs.Forms.{Lines, wordsPut, formPut, noCounts, noDoubles, refusedPut, firstsPut}
 use Rattle.twoway.specs.declared.TwoWayAnovaResult.{TwoWayAnovaResult}
 use Rattle.twoway.specs.Anova.{twoWayAnova}
 use Rattle.study.specs.declared.GaugeStudy.{GaugeStudy}
@@ -18,9 +18,9 @@ use Rattle.study.specs.Study.{gaugeStudy}
 unfoldable pub cellsPut : ℕ → ℕ → List Float → Lines → Lines
 cellsPut a b means s = cond (leb a 6) (cond (leb b 6) (formPut noCounts (take (a * b) means) s (ascii "cells@\n")) s) s
 
--- the means of n levels, in this form, where there are no more than 6
-unfoldable pub marginsPut : List ℕ → ℕ → List Float → Lines → Lines
-marginsPut form n means s = cond (leb n 6) (formPut noCounts (take n means) s form) s
+-- the means of n levels, in this form
+abbrev pub marginsPut : List ℕ → ℕ → List Float → Lines → Lines
+marginsPut form n means s = firstsPut form n means s
 
 module _ (r : TwoWayAnovaResult) where
   -- the levels and the readings; the factors A and B: sum of squares, degrees of freedom, mean square, F

@@ -162,10 +162,7 @@ fn cells_line(out: &mut Out, at: usize, a: usize, b: usize, means: [f64; 36]) ->
 fn margins_line(out: &mut Out, at: usize, form: &[u8], n: usize, means: [f64; 6]) -> usize
     ensures { λ x. ⌜ (now (out .exit), x) ≡ marginsPut (now (form .entry)) n means (now (out .entry), at) ⌝ }
 {
-    if n > 6 {
-        return at;
-    }
-    lines::list(out, at, form, [0; 3], &means[..n])
+    lines::firsts(out, at, form, n, &means)
 }
 
 fn study_lines(out: &mut Out, at: usize, r: GaugeStudy) -> usize

@@ -1,2 +1,3 @@
 pub mod Spaced
 pub mod Letters
+pub mod AsMany

@@ -4,7 +4,7 @@ use mathlib.Core.Bool.{cond}
 use mathlib.Core.List.{List, [], _∷_, foldl}
 use lib.Dec.{eqb, leb, ltb}
 use lib.Ieee.{Float, binary64, toBits, nan}
-use lib.ListN.{length, getD, replicate}
+use lib.ListN.{length, getD, take, replicate}
 use Rattle.base.specs.declared.Refusal.{Refusal}
 use Rattle.float.specs.Words.{plusZero}
 use Rattle.text.specs.Ascii.{ascii}
@@ -59,6 +59,10 @@ noCounts = replicate 3 0
 
 unfoldable pub noDoubles : List Float
 noDoubles = replicate 10 plusZero
+
+-- a form with the first n of these doubles for its list; nothing where there are not as many
+unfoldable pub firstsPut : List ℕ → ℕ → List Float → Lines → Lines
+firstsPut form n xs s = cond (leb n (length xs)) (formPut noCounts (take n xs) s form) s
 
 -- the line of a refusal
 unfoldable pub refusedPut : Lines → Refusal → Lines

@@ -5,7 +5,7 @@ ghost use mathlib.Core.Path.{_≡_};
 ghost use mathlib.Core.List.{[], _∷_};
 ghost use Prim.Native.Nat.{_≤_};
 ghost use lib.ListN.{length};
-ghost use Rattle.lines.specs.Forms.{wordsPut, countPut, doublePut, eachPut, onePut, letterPut, formPut, refusedPut};
+ghost use Rattle.lines.specs.Forms.{wordsPut, countPut, doublePut, eachPut, onePut, letterPut, formPut, refusedPut, firstsPut};
 
 // The buffer of the answers.
 pub type Out = [u8; 65536];
@@ -28,6 +28,16 @@ pub fn list(out: &mut Out, at: usize, form: &[u8], counts: [u64; 3], doubles: &[
         i += 1;
     }
     next
+}
+
+// Puts a form with a list of the first n doubles; nothing where there are not as many.
+pub fn firsts(out: &mut Out, at: usize, form: &[u8], n: usize, doubles: &[f64]) -> usize
+    ensures { λ r. ⌜ (now (out .exit), r) ≡ firstsPut (now (form .entry)) n (now (doubles .entry)) (now (out .entry), at) ⌝ }
+{
+    if doubles.len() < n {
+        return at;
+    }
+    list(out, at, form, [0; 3], &doubles[..n])
 }
 
 // The line of a refusal.

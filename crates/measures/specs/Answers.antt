@@ -7,7 +7,7 @@ use lib.Ieee.{Float}
 use lib.ListN.{take, replicate}
 use Rattle.float.specs.Words.{plusZero}
 use Rattle.text.specs.Ascii.{ascii}
-use Rattle.lines.specs.Forms.{Lines, formPut, noCounts, refusedPut}
+use Rattle.lines.specs.Forms.{Lines, formPut, noCounts, refusedPut, firstsPut}
 use Rattle.repeated.specs.declared.RmAnovaResult.{RmAnovaResult}
 use Rattle.repeated.specs.Anova.{repeatedMeasuresAnova}
 
@@ -44,12 +44,12 @@ module _ (r : RmAnovaResult) where
       (ascii "sphericity01\ngg2345\nhf6789\n"))
       s
 
--- the means of k conditions, where there are no more than 12, and of n subjects
-unfoldable pub conditionsPut : ℕ → List Float → Lines → Lines
-conditionsPut k means s = cond (leb k 12) (formPut noCounts (take k means) s (ascii "condition_means@\n")) s
+-- the means of k conditions, and of n subjects
+abbrev pub conditionsPut : ℕ → List Float → Lines → Lines
+conditionsPut k means s = firstsPut (ascii "condition_means@\n") k means s
 
-unfoldable pub subjectsPut : ℕ → List Float → Lines → Lines
-subjectsPut n means s = cond (leb n 64) (formPut noCounts (take n means) s (ascii "subject_means@\n")) s
+abbrev pub subjectsPut : ℕ → List Float → Lines → Lines
+subjectsPut n means s = firstsPut (ascii "subject_means@\n") n means s
 
 unfoldable pub meansPut : RmAnovaResult → Lines → Lines
 meansPut r s = subjectsPut (r .«n_subjects») (r .«subject_means») (conditionsPut (r .«n_conditions») (r .«condition_means») s)

@@ -76,19 +76,13 @@ fn mean_lines(out: &mut Out, at: usize, r: RmAnovaResult) -> usize
 fn conditions_line(out: &mut Out, at: usize, k: usize, means: [f64; 12]) -> usize
     ensures { λ x. ⌜ (now (out .exit), x) ≡ conditionsPut k means (now (out .entry), at) ⌝ }
 {
-    if k > 12 {
-        return at;
-    }
-    lines::list(out, at, b"condition_means@\n", [0; 3], &means[..k])
+    lines::firsts(out, at, b"condition_means@\n", k, &means)
 }
 
 fn subjects_line(out: &mut Out, at: usize, n: usize, means: [f64; 64]) -> usize
     ensures { λ x. ⌜ (now (out .exit), x) ≡ subjectsPut n means (now (out .entry), at) ⌝ }
 {
-    if n > 64 {
-        return at;
-    }
-    lines::list(out, at, b"subject_means@\n", [0; 3], &means[..n])
+    lines::firsts(out, at, b"subject_means@\n", n, &means)
 }
 
 fn sphericity_lines(out: &mut Out, at: usize, r: RmAnovaResult) -> usize

@@ -44,7 +44,8 @@ correctionsOf n k m f dn dd = record {
   «huynh_feldt» = corrected f dn dd (epsilonHf n k (ggOf k m));
 }
 
--- three conditions or more, and sizes that are taken, give their corrections; else nothing but zeros
+-- three conditions or more, and sizes that `contrastCovariance` takes (2 to 64 subjects, up to 12 conditions, a reading for each of both, a mean for each condition),
+-- give their corrections; else nothing but zeros
 unfoldable pub computeSphericityCorrections : ℕ → ℕ → List Float → List Float → Float → Float → Float → Corrections
 computeSphericityCorrections n k xs ms f dn dd = cond (leb 3 k && csc n k xs ms .1) (correctionsOf n k (csc n k xs ms .0) f dn dd) noCorrections
 
