@@ -1,7 +1,7 @@
 // A case: its head, and the lists behind it.
 ghost use mathlib.Core.Path.{_≡_};
 use crate::kinds;
-use lines::Out;
+use crate::lines::Out;
 ghost use Prim.Native.Nat.{_+_, _*_, _<_, _≤_};
 ghost use lib.ListN.{length};
 ghost use Rattle.replay.specs.Heads.{Small};

@@ -1,6 +1,12 @@
-// Which crate answers a kind. A new kind is a line in one of them, and a function that works it out and puts its lines. It may use the option, the
-// sizes, the codes of both factors, and the readings.
-use lines::Out;
+// Which module answers a kind. A new kind is a line here, and a function of its wing's module that works it out and puts its lines: it may use the
+// option, the sizes, the codes of both factors, and the readings.
+use crate::lines::Out;
+use crate::lines_matrix;
+use crate::lines_oneway;
+use crate::lines_repeated;
+use crate::lines_sheet;
+use crate::lines_stats;
+use crate::lines_twoway;
 
 pub fn answer(
     out: &mut Out,
@@ -12,14 +18,21 @@ pub fn answer(
     b: &[u32],
     readings: &[f64],
 ) -> usize {
-    if kind == 5 || kind == 7 {
-        return designs::answer(out, at, kind, option, a, b, readings);
+    match kind {
+        1 | 2 => lines_stats::figure(out, at, kind, readings),
+        3 | 4 => lines_oneway::analysis(out, at, kind, sizes, readings),
+        5 | 7 => lines_twoway::answer(out, at, kind, option, a, b, readings),
+        6 => lines_repeated::repeated_measures(out, at, option, sizes, readings),
+        8 => lines_stats::roots(out, at, readings),
+        9 => lines_oneway::view(out, at, option, sizes, readings),
+        10 => lines_sheet::sheet(out, at, option, sizes, a, readings),
+        11 => lines_matrix::solve(out, at, option, readings),
+        12 => lines_matrix::inverse(out, at, option, readings),
+        13 => lines_matrix::determinant(out, at, option, readings),
+        14 => lines_matrix::eigenvalues(out, at, option, readings),
+        15 => lines_matrix::qr(out, at, option, readings),
+        16 => lines_matrix::orthonormalize(out, at, option, readings),
+        17 => lines_stats::power(out, at, option, readings),
+        _ => text::put(out, at, b"unknown kind\n"),
     }
-    if kind == 6 {
-        return measures::repeated_measures(out, at, option, sizes, readings);
-    }
-    if 11 <= kind && kind <= 16 {
-        return matrices::answer(out, at, kind, option, readings);
-    }
-    answers::answer(out, at, kind, option, sizes, a, readings)
 }

@@ -1,6 +1,6 @@
 // The stream: blocks of the input into a buffer, cases out of it, and answers into a second buffer, which is written when it is half full.
 use crate::cases;
-use lines::Out;
+use crate::lines::Out;
 ghost use Prim.Native.Nat.{_+_, _≤_};
 ghost use lib.ListN.{length};
 ghost use Rattle.replay.specs.Streams.{Inside};

@@ -1,3 +1,0 @@
-pub mod Inside
-pub mod Layouts
-pub mod Answers
