@@ -13,6 +13,9 @@
  * (Welch's method has no sums of squares: those are +0.0; a NaN is always 7FF8000000000000). The bytes behind stay as they were.
  * Or they return a refusal, and all of out stays as it was.
  *
+ * The host's floating-point environment must be the default one: round to nearest, no flush to zero, no denormals-are-zero. The functions work in
+ * the environment that they find, and neither ask for it nor set it: after fesetround(FE_UPWARD) the same set gives other bits.
+ *
  *     uint8_t out[48];
  *     uint32_t refusal = bench_fisher(set, set_len, out, sizeof out);
  *     if (refusal == BARKDOUBLET_ACCEPTED) { double f; memcpy(&f, out, 8); .. }
@@ -27,15 +30,15 @@
 extern "C" {
 #endif
 
-/* What these calls can return. The first that holds, in the order of the lines with a number in parentheses: an output that is too
- * short; the set's bytes; the groups. */
+/* What these calls can return. The checks are made in the order of the numbers in parentheses, and the first that fails is told. (8) and (9) are made
+ * group by group: a NaN in the first group is told before a second group that is too short. */
 enum barkdoublet_refusal {
     BARKDOUBLET_ACCEPTED = 0,
-    BARKDOUBLET_TOO_LITTLE_DATA = 2,  /* (7) a group of fewer than two readings */
-    BARKDOUBLET_TOO_FEW_GROUPS = 3,   /* (6) fewer than two groups */
-    BARKDOUBLET_NAN = 4,              /* (7) a NaN among a group's readings; group by group, size first */
-    BARKDOUBLET_WRONG_LENGTH = 10,    /* (2) under two bytes; (3) sizes cut short; (5) not as long as the sizes say */
-    BARKDOUBLET_OVER_CAPACITY = 11,   /* (2) more than 16 groups; (4) more than 512 readings */
+    BARKDOUBLET_TOO_LITTLE_DATA = 2,  /* (8) a group of fewer than two readings */
+    BARKDOUBLET_TOO_FEW_GROUPS = 3,   /* (7) fewer than two groups */
+    BARKDOUBLET_NAN = 4,              /* (9) a NaN among a group's readings */
+    BARKDOUBLET_WRONG_LENGTH = 10,    /* (2) under two bytes; (4) the sizes are cut short; (6) not as long as the sizes say */
+    BARKDOUBLET_OVER_CAPACITY = 11,   /* (3) more than 16 groups; (5) more than 512 readings */
     BARKDOUBLET_OUTPUT_TOO_SHORT = 12 /* (1) out has fewer than 48 bytes */
 };
 

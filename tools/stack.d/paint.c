@@ -11,8 +11,8 @@ double call_one_way_anova_welch(const double *readings, size_t n, const uint32_t
 double call_sheet_remove(const double *readings, size_t n, const uint32_t *sizes, size_t k, size_t group, size_t place, size_t i);
 double call_two_way_anova(const double *values, size_t n, const uint32_t *a, size_t n_a, const uint32_t *b, size_t n_b, double *scratch, size_t room, size_t i);
 double call_repeated_measures_anova(const double *readings, size_t n, const uint32_t *sizes, size_t k, uint32_t sphericity, size_t i);
-uint32_t tempo_repeated(const double *readings, size_t n, const uint32_t *sizes, size_t k, uint32_t sphericity, double *out, size_t places);
-uint32_t rates_two_way(const double *values, size_t n, const uint32_t *a, size_t n_a, const uint32_t *b, size_t n_b, double *scratch, size_t room, double *out, size_t places);
+uint32_t speed_repeated(const double *readings, size_t n, const uint32_t *sizes, size_t k, uint32_t sphericity, double *out, size_t places);
+uint32_t speed_two_way(const double *values, size_t n, const uint32_t *a, size_t n_a, const uint32_t *b, size_t n_b, double *scratch, size_t room, double *out, size_t places);
 
 enum { STACK = 1 << 18, PAINT = 0xA5 };
 
@@ -43,8 +43,8 @@ MEASURE(call_one_way_anova_welch, (readings, 512, groups, 16, 3))
 MEASURE(call_sheet_remove, (readings, 512, groups, 16, 3, 5, 7))
 MEASURE(call_two_way_anova, (readings, 512, codes_a, 512, codes_b, 512, scratch, 6400, 3))
 MEASURE(call_repeated_measures_anova, (readings, 504, rows, 42, 1, 3))
-MEASURE(tempo_repeated, (readings, 504, rows, 42, 1, out, 8))
-MEASURE(rates_two_way, (readings, 512, codes_a, 512, codes_b, 512, scratch, 6400, out, 8))
+MEASURE(speed_repeated, (readings, 504, rows, 42, 1, out, 8))
+MEASURE(speed_two_way, (readings, 512, codes_a, 512, codes_b, 512, scratch, 6400, out, 8))
 
 static void on_stack(void (*measure)(void))
 {
@@ -72,7 +72,7 @@ int main(void)
     on_stack(measure_call_sheet_remove);
     on_stack(measure_call_two_way_anova);
     on_stack(measure_call_repeated_measures_anova);
-    on_stack(measure_tempo_repeated);
-    on_stack(measure_rates_two_way);
+    on_stack(measure_speed_repeated);
+    on_stack(measure_speed_two_way);
     return 0;
 }

@@ -1,11 +1,11 @@
 -- Laws of lists cut into groups: where a group lies, and one turn of a walk over the groups.
-use mathlib.Core.Path.{_≡_, refl, sym, ap, _∙_}
+use mathlib.Core.Path.{_≡_, refl, ap, _∙_}
 use mathlib.Core.List.{List, [], _∷_, _++_, map, flatten, append-assoc}
 use Prim.Native.Nat.{ℕ, zero, suc, _+_, _-_, _≤_, _<_}
-use native.Mathlib.Nat.{add-sub-cancel-left, zero-add, not-suc-le-zero, le-of-suc-le-suc}
+use native.Mathlib.Nat.{add-sub-cancel-left, not-suc-le-zero, le-of-suc-le-suc}
 use native.Mathlib.Numerals.{add-one}
 use native.Mathlib.Omega.{arith}
-use lib.ListN.{length, getD, take, drop, set, length-append, drop-of-length-le, length-take, length-drop}
+use lib.ListN.{length, getD, take, drop, length-append, drop-of-length-le, length-drop}
 use lib.Seq.{take-add, drop-drop, take-append-seam, drop-append-seam, drop-cons, length-take-le}
 use Rattle.base.specs.Lists.{total, cut}
 

@@ -1,12 +1,10 @@
 -- Laws of faults: two tests joined by "or" or by "and", and a check that stands behind two others.
-use mathlib.Core.Path.{_≡_, refl, sym, _∙_}
+use mathlib.Core.Path.{_≡_, refl, _∙_}
 use mathlib.Core.Bool.{Bool, true, false, cond, _||_, _&&_}
-use Prim.Native.Nat.{ℕ}
-use borrow.Author.Tests.{eqb-true, eq-eqb}
 use lib.Dec.{eqb}
 use Rattle.base.specs.declared.Refusal.{Refusal}
 use Rattle.base.specs.Refusals.{_orElse_}
-use Rattle.base.proofs.Order.{first-wins, second-asked, stops, goes-on}
+use Rattle.base.proofs.Order.{stops, goes-on}
 
 -- where neither of two faults is there, each is not
 pub neither : (x y : Bool) → (x || y) ≡ false → (x ≡ false) × (y ≡ false)

@@ -1,5 +1,5 @@
 -- Laws of a walk over a list by its index: one turn, and its end. `rest` is what is left to fold from i on, from t.
-use mathlib.Core.Path.{_≡_, sym, _∙_}
+use mathlib.Core.Path.{_≡_}
 use mathlib.Core.List.{List, foldl}
 use Prim.Native.Nat.{ℕ, _+_, _<_, _≤_}
 use native.Mathlib.Numerals.{add-one}

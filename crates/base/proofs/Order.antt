@@ -1,7 +1,6 @@
 -- Laws of the order of checks: which refusal wins, and what a check that was passed leaves known.
 use mathlib.Core.Path.{_≡_, refl, sym, ap, _∙_}
 use mathlib.Core.Bool.{Bool, true, false, cond}
-use Prim.Native.Nat.{ℕ}
 use borrow.Author.Tests.{eqb-true, eqb-false, eq-eqb, ne-eqb}
 use lib.Dec.{eqb}
 use Rattle.base.specs.declared.Refusal.{Refusal}
@@ -22,6 +21,14 @@ module _ (r s : Refusal) where
       go : (b : Bool) → eqb (r .number) 0 ≡ b → cond b s r .number ≡ 0 → (r .number ≡ 0) × (s .number ≡ 0)
       go true e h = (eqb-true (r .number) 0 e, h)
       go false e h = absurd (eqb-false (r .number) 0 e h)
+
+-- a refusal is none, or it is one
+pub either : {P : Type 0} (r : Refusal) → (r .number ≡ 0 → P) → ((r .number ≡ 0 → ⊥) → P) → P
+either {P} r passed refused = go (eqb (r .number) 0) refl
+  where
+    go : (b : Bool) → eqb (r .number) 0 ≡ b → P
+    go true e = passed (eqb-true (r .number) 0 e)
+    go false e = refused (eqb-false (r .number) 0 e)
 
 -- the code asks q first, r is what it was told, and goes on only where that is no refusal
 module _ (q s : Refusal) {r : Refusal} where

@@ -6,7 +6,7 @@ use native.Mathlib.Omega.{arith}
 use native.Mathlib.Nat.{le-refl, mul-one, mul-le-mul-right}
 use borrow.Author.Tests.{ltb-true, ltb-false}
 use lib.Dec.{ltb}
-use Rattle.base.specs.Lists.{Line}
+use Rattle.base.specs.Inner.{Line}
 use Rattle.base.proofs.Bounds.{row-end}
 
 pub other-row : (a b w x y : ℕ) → a < b → x < w → a * w + x ≡ b * w + y → ⊥

@@ -5,11 +5,12 @@ use Prim.Native.Nat.{ℕ, _+_, _<_, _≤_}
 use native.Mathlib.Omega.{arith}
 use borrow.Author.Tests.{ltb-false, eqb-true, eqb-false}
 use lib.Dec.{ltb, eqb}
-use lib.ListN.{length, take, drop, getD}
+use lib.ListN.{length, take, getD}
 use lib.Seq.{take-all}
 use Rattle.base.specs.Lists.{total}
 use Rattle.base.specs.Refusals.{refuse, when}
-use Rattle.base.specs.Sizes.{Sized, sizesRefusal}
+use Rattle.base.specs.Inner.{Sized}
+use Rattle.base.specs.Sizes.{sizesRefusal}
 use Rattle.base.proofs.Cuts.{total-split, total-turn}
 use Rattle.base.proofs.Order.{both-passed, no-fault, needed-there}
 

@@ -1,11 +1,11 @@
 -- Laws of a list in words of one length: where a word lies.
-use mathlib.Core.Path.{_≡_, refl, sym, ap, _∙_}
-use mathlib.Core.List.{List, [], _∷_}
+use mathlib.Core.Path.{_≡_, sym, ap, _∙_}
+use mathlib.Core.List.{List, []}
 use Prim.Native.Nat.{ℕ, zero, suc, _+_, _*_, _≤_, _<_}
 use native.Mathlib.Nat.{zero-mul, suc-mul, not-suc-le-zero, le-of-suc-le-suc, add-comm}
 use native.Mathlib.Omega.{arith}
 use lib.ListN.{length, getD, take, drop, replicate, length-replicate, getD-replicate}
-use Rattle.base.specs.Lists.{total, cut, words}
+use Rattle.base.specs.Lists.{total, words}
 use Rattle.base.proofs.Cuts.{length-cut, cut-at}
 
 before-word : (w k g : ℕ) → g ≤ k → total (take g (replicate k w)) ≡ g * w

@@ -3,3 +3,5 @@ pub mod Refusals
 pub mod Loop
 pub mod Lists
 pub mod Sizes
+pub mod Histories
+pub mod Inner

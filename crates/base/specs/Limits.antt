@@ -1,4 +1,4 @@
--- Document 01, "Capacities".
+-- Document 01, "Capacities", and the least that an analysis needs.
 use Prim.Native.Nat.{ℕ}
 
 -- readings a call
@@ -13,6 +13,10 @@ mostGroups = 16
 abbrev pub mostLevels : ℕ
 mostLevels = 6
 
+-- cells of two factors
+abbrev pub mostCells : ℕ
+mostCells = 36
+
 abbrev pub mostSubjects : ℕ
 mostSubjects = 64
 
@@ -22,3 +26,10 @@ mostConditions = 12
 -- places of f64 that a two-way call is lent
 abbrev pub scratchPlaces : ℕ
 scratchPlaces = 6400
+
+-- the fewest groups of an analysis, and the fewest readings of a group
+abbrev pub fewestGroups : ℕ
+fewestGroups = 2
+
+abbrev pub fewestReadings : ℕ
+fewestReadings = 2

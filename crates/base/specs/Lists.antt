@@ -1,6 +1,6 @@
--- Words for lists: sums of sizes, a list cut into groups, one list laid over another, a part of a list, places filled one by one, places that lie apart.
-use Prim.Native.Nat.{ℕ, _+_, _*_, _<_}
-use mathlib.Core.List.{List, [], _∷_, _++_}
+-- Words for lists: sums of sizes, a list cut into groups, one list laid over another, a part of a list, pieces laid one after another, places filled one by one.
+use Prim.Native.Nat.{ℕ, _+_}
+use mathlib.Core.List.{List, [], _∷_, _++_, map, flatten}
 use lib.ListN.{length, take, drop, set, replicate}
 use Rattle.base.specs.Loop.{loop}
 
@@ -39,6 +39,6 @@ module _ {A : Type 0} where
   unfoldable pub listed : ℕ → (ℕ → A) → List A → List A
   listed n f out = loop 0 n (putAt f) out
 
--- n places from s on, d apart, lie among the first k
-abbrev pub Line : ℕ → ℕ → ℕ → ℕ → Type 0
-Line k s d n = (q : ℕ) → q < n → s + q * d < k
+-- f of each element, one piece after another: texts, and bytes
+abbrev pub run : {A B : Type 0} → (A → List B) → List A → List B
+run f xs = flatten (map f xs)

@@ -13,11 +13,18 @@ pub const MOST_GROUPS: usize = 16;
 
 pub const MOST_LEVELS: usize = 6;
 
+pub const MOST_CELLS: usize = 36;
+
 pub const MOST_SUBJECTS: usize = 64;
 
 pub const MOST_CONDITIONS: usize = 12;
 
 pub const SCRATCH_PLACES: usize = 6400;
+
+// The fewest groups of an analysis, and the fewest readings of a group.
+pub const FEWEST_GROUPS: usize = 2;
+
+pub const FEWEST_READINGS: usize = 2;
 
 // A refusal's number in document 01's table, and its two details; number 0 is no refusal.
 // The details have 64 bits: the code 4294967295 is 4294967296 levels.

@@ -5,8 +5,8 @@ use Prim.Native.Nat.{ℕ, _*_, _<_, _≤_}
 use borrow.Author.Tests.{lt-ltb, le-ltb, eq-eqb, ne-eqb}
 use lib.Ieee.{Float, binary64, toBits}
 use lib.ListN.{length}
-use Rattle.base.specs.Lists.{over}
-use Rattle.base.proofs.Runs.{run, length-run}
+use Rattle.base.specs.Lists.{over, run}
+use Rattle.base.proofs.Runs.{length-run}
 use Rattle.oneway.specs.declared.AnovaKind.{AnovaKind}
 use Rattle.results.specs.declared.OneWayAnovaResult.{OneWayAnovaResult}
 use Rattle.set.specs.Sets.{setAnova}

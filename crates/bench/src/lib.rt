@@ -1,17 +1,19 @@
 // The calls of the bench host, which is written in C: an analysis of a reading set, into an output that the host lends.
 use oneway::AnovaKind;
 ghost use mathlib.Core.Path.{_≡_};
-ghost use mathlib.Core.List.{map, flatten};
 ghost use Prim.Native.Nat.{_≤_, _*_};
 ghost use lib.ListN.{length};
-ghost use Rattle.base.specs.Lists.{over};
+ghost use Rattle.base.specs.Lists.{over, run};
 ghost use Rattle.oneway.specs.declared.AnovaKind.the-variants.{Fisher, Welch};
 ghost use Rattle.bench.specs.Calls.{floatBytes, benchOf};
+
+// The six figures of an answer, eight bytes each.
+const OUT_BYTES: usize = 6 * 8;
 
 // Puts the floats over the front of out, eight bytes each.
 fn put_floats(out: &mut [u8], figures: &[f64])
     requires { ⌜ length (now figures) * 8 ≤ length (now out) ⌝ }
-    ensures { λ _. ⌜ now (out .exit) ≡ over (flatten (map floatBytes (now (figures .entry)))) (now (out .entry)) ⌝ }
+    ensures { λ _. ⌜ now (out .exit) ≡ over (run floatBytes (now (figures .entry))) (now (out .entry)) ⌝ }
 {
     let mut i = 0;
     while i < figures.len() {
@@ -26,7 +28,7 @@ fn put_floats(out: &mut [u8], figures: &[f64])
 fn bench(set: &[u8], out: &mut [u8], kind: AnovaKind) -> u32
     ensures { λ r. ⌜ (now (out .exit), r) ≡ benchOf kind (now (set .entry)) (now (out .entry)) ⌝ }
 {
-    if out.len() < 48 {
+    if out.len() < OUT_BYTES {
         return 12;
     }
     let a = set::set_anova(set, kind);

@@ -10,7 +10,8 @@ use lib.Ieee.{Float, binary64, toBits}
 use lib.ListN.{length, length-append}
 use Rattle.base.specs.declared.Refusal.{Refusal}
 use Rattle.base.specs.Refusals.{refuse}
-use Rattle.base.proofs.Runs.{run, length-run}
+use Rattle.base.specs.Lists.{run}
+use Rattle.base.proofs.Runs.{length-run}
 use Rattle.oneway.specs.declared.AnovaKind.the-variants.{Fisher}
 use Rattle.results.specs.declared.OneWayAnovaResult.{OneWayAnovaResult}
 use Rattle.set.specs.Sets.{setAnova}
@@ -44,22 +45,31 @@ counts-short name ns = simp length-append (omega (arith, decimals-short ns))
 pub puts-room : (out t u : List ℕ) {o : List ℕ} {r : ℕ} → (o, r) ≡ puts out 0 t → length t + length u ≤ length out → r + length u ≤ length o
 puts-room out t u e h = rw (puts-place out 0 t e, puts-length out 0 t e) (omega arith)
 
--- the lengths of Fisher's lines
+-- Fisher's text up to a line, and how long it is with that line
 module _ (a : OneWayAnovaResult) where
+  abbrev pub untilSs : List ℕ
+  untilSs = groupsLine a ++ ssLine a
+
+  abbrev pub untilDf : List ℕ
+  untilDf = untilSs ++ dfLine a
+
+  abbrev pub untilMs : List ℕ
+  untilMs = untilDf ++ msLine a
+
   pub two-lines : length (groupsLine a) + length (ssLine a) ≤ 103
   two-lines = omega (arith, counts-short fisherName (a .«n_groups» ∷ a .«n_total» ∷ []), floats-long ssName (a .«ss_between» ∷ a .«ss_within» ∷ a .«ss_total» ∷ []))
 
-  pub three-lines : length (groupsLine a ++ ssLine a) + length (dfLine a) ≤ 140
+  pub three-lines : length untilSs + length (dfLine a) ≤ 140
   three-lines = rw (length-append (groupsLine a) (ssLine a)) (omega (arith, two-lines, floats-long dfName (a .«df_between» ∷ a .«df_within» ∷ [])))
 
-  pub four-lines : length ((groupsLine a ++ ssLine a) ++ dfLine a) + length (msLine a) ≤ 177
-  four-lines = rw (length-append (groupsLine a ++ ssLine a) (dfLine a)) (omega (arith, three-lines, floats-long msName (a .«ms_between» ∷ a .«ms_within» ∷ [])))
+  pub four-lines : length untilDf + length (msLine a) ≤ 177
+  four-lines = rw (length-append untilSs (dfLine a)) (omega (arith, three-lines, floats-long msName (a .«ms_between» ∷ a .«ms_within» ∷ [])))
 
-  pub five-lines : length (((groupsLine a ++ ssLine a) ++ dfLine a) ++ msLine a) + length (fLine a) ≤ 196
-  five-lines = rw (length-append ((groupsLine a ++ ssLine a) ++ dfLine a) (msLine a)) (omega (arith, four-lines, floats-long fName (a .statistic ∷ [])))
+  pub five-lines : length untilMs + length (fLine a) ≤ 196
+  five-lines = rw (length-append untilDf (msLine a)) (omega (arith, four-lines, floats-long fName (a .statistic ∷ [])))
 
   fisher-short : length (fisherText a) ≤ 256
-  fisher-short = rw (length-append (((groupsLine a ++ ssLine a) ++ dfLine a) ++ msLine a) (fLine a)) (omega (arith, five-lines))
+  fisher-short = rw (length-append untilMs (fLine a)) (omega (arith, five-lines))
 
 pub refused-short : (r : Refusal) → length (refusedText r) ≤ 71
 refused-short r = omega (arith, counts-short refusedName (r .number ∷ r .first ∷ r .second ∷ []))

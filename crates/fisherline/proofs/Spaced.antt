@@ -7,7 +7,8 @@ use native.Mathlib.Numerals.{add-one}
 use native.Mathlib.Omega.{arith}
 use lib.ListN.{length, set, getD, drop, length-set, length-append}
 use lib.Seq.{sets, length-sets}
-use Rattle.base.proofs.Runs.{run, run-step, run-left, run-end, sets-append}
+use Rattle.base.specs.Lists.{run}
+use Rattle.base.proofs.Runs.{run-step, run-left, run-end, sets-append}
 use Rattle.text.specs.Put.{putOf}
 use Rattle.text.proofs.Puts.{put-lays, put-place}
 use Rattle.fisherline.specs.Rows.{puts}

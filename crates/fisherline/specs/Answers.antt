@@ -1,5 +1,5 @@
 -- What `fisherline` prints of a set: its text, and the text in lent memory.
-use Prim.Native.Nat.{ℕ}
+use Prim.Native.Nat.{ℕ, _+_}
 use mathlib.Core.Bool.{cond}
 use mathlib.Core.List.{List, [], _∷_, _++_}
 use lib.Dec.{ltb, eqb}
@@ -8,7 +8,7 @@ use Rattle.base.specs.declared.Refusal.{Refusal}
 use Rattle.base.specs.Refusals.{refuse}
 use Rattle.oneway.specs.declared.AnovaKind.the-variants.{Fisher}
 use Rattle.results.specs.declared.OneWayAnovaResult.{OneWayAnovaResult}
-use Rattle.set.specs.Sets.{setAnova}
+use Rattle.set.specs.Sets.{longestSet, setAnova}
 use Rattle.text.specs.Ascii.{ascii}
 use Rattle.fisherline.specs.Rows.{countsLine, floatsLine, puts}
 
@@ -62,8 +62,12 @@ resultText a = cond (eqb (a .refusal .number) 0) (fisherText a) (refusedText (a 
 
 -- more bytes than the longest set has are refused unread
 unfoldable pub textOf : List ℕ → List ℕ
-textOf set = cond (ltb 4130 (length set)) (refusedText (refuse 10 4130 4131)) (resultText (setAnova Fisher set))
+textOf set = cond (ltb longestSet (length set)) (refusedText (refuse 10 longestSet (longestSet + 1))) (resultText (setAnova Fisher set))
 
--- the text at the front of out, and its length; nothing where out has fewer than the 256 places into which every answer fits
+-- how many places every answer fits into
+abbrev pub textRoom : ℕ
+textRoom = 256
+
+-- the text at the front of out, and its length; nothing where out has fewer places
 unfoldable pub answerOf : List ℕ → List ℕ → List ℕ × ℕ
-answerOf set out = cond (ltb (length out) 256) (out, 0) (puts out 0 (textOf set))
+answerOf set out = cond (ltb (length out) textRoom) (out, 0) (puts out 0 (textOf set))

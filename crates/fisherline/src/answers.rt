@@ -6,9 +6,15 @@ ghost use mathlib.Core.Path.{_≡_};
 ghost use Prim.Native.Nat.{_+_, _≤_};
 ghost use lib.ListN.{length};
 ghost use lib.Seq.{sets};
-ghost use Rattle.base.proofs.Runs.{run};
+ghost use Rattle.base.specs.Lists.{run};
 ghost use Rattle.fisherline.specs.Rows.{spacedHex, spacedDecimal, floatsLine, countsLine, puts};
-ghost use Rattle.fisherline.specs.Answers.{refusedText, fisherText, answerOf};
+ghost use Rattle.fisherline.specs.Answers.{textRoom, refusedText, fisherText, answerOf};
+
+// One byte more than the longest set, so that a longer one is told.
+pub const TOO_LONG: usize = set::LONGEST + 1;
+
+// How many places every answer fits into.
+pub const ROOM: usize = 256;
 
 // Each count behind a space, from `at` on. The result is the place behind them.
 fn put_counts(out: &mut [u8], at: usize, ns: &[u64]) -> usize
@@ -61,14 +67,14 @@ fn floats_line(out: &mut [u8], at: usize, name: &[u8], xs: &[f64]) -> usize
 }
 
 fn refused(out: &mut [u8], r: Refusal) -> usize
-    requires { ⌜ 256 ≤ length (now out) ⌝ }
+    requires { ⌜ textRoom ≤ length (now out) ⌝ }
     ensures { λ n. ⌜ (now (out .exit), n) ≡ puts (now (out .entry)) 0 (refusedText r) ⌝ }
 {
     counts_line(out, 0, b"refused", &[r.number as u64, r.first, r.second])
 }
 
 fn fisher(out: &mut [u8], a: OneWayAnovaResult) -> usize
-    requires { ⌜ 256 ≤ length (now out) ⌝ }
+    requires { ⌜ textRoom ≤ length (now out) ⌝ }
     ensures { λ n. ⌜ (now (out .exit), n) ≡ puts (now (out .entry)) 0 (fisherText a) ⌝ }
 {
     let ss = counts_line(out, 0, b"fisher", &[a.n_groups as u64, a.n_total as u64]);
@@ -78,15 +84,15 @@ fn fisher(out: &mut [u8], a: OneWayAnovaResult) -> usize
     floats_line(out, f, b"f", &[a.statistic])
 }
 
-// The answer to a set, as text at the front of out. The result is its length; where out has fewer than 256 places nothing is written, and it is 0.
+// The answer to a set, as text at the front of out. The result is its length; where out has fewer than ROOM places nothing is written, and it is 0.
 pub fn answer(set: &[u8], out: &mut [u8]) -> usize
     ensures { λ n. ⌜ (now (out .exit), n) ≡ answerOf (now (set .entry)) (now (out .entry)) ⌝ }
 {
-    if out.len() < 256 {
+    if out.len() < ROOM {
         return 0;
     }
-    if 4130 < set.len() {
-        return refused(out, Refusal::new(10, 4130, 4131));
+    if set::LONGEST < set.len() {
+        return refused(out, Refusal::new(10, set::LONGEST as u64, TOO_LONG as u64));
     }
     let a = set::set_anova(set, AnovaKind::Fisher);
     let r = a.refusal;

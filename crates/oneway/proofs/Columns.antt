@@ -10,7 +10,7 @@ use Rattle.base.proofs.Fills.{fill, fill-step, fill-ends}
 use Rattle.float.specs.Words.{_⊕_}
 use Rattle.stats.specs.Sums.{sumBy}
 use Rattle.stats.proofs.Adding.{Left, sum-step, sum-ends}
-use Rattle.oneway.specs.Summary.{lines, linesOf, Long}
+use Rattle.oneway.specs.Inner.{lines, linesOf, Long}
 
 module _ {A : Type 0} (f : ℕ → Float → Float → A) where
   abbrev unread : A

@@ -1,2 +1,3 @@
 pub mod Columns
 pub mod Summaries
+pub mod Reports

@@ -1,22 +1,23 @@
 -- Laws of summaries: how one is made of the groups, and that the rows it was made of can be read off it.
-use mathlib.Core.Path.{_≡_, refl, sym, ap, _∙_}
+use mathlib.Core.Path.{_≡_, refl, ap, _∙_}
 use mathlib.Core.List.{List, [], _∷_, map, map-map, map-id}
 use Prim.Native.Nat.{ℕ, _≤_}
 use native.Mathlib.Omega.{arith}
 use lib.Ieee.{Float}
 use lib.ListN.{length, take, length-map, length-append, length-drop, length-take}
 use lib.Seq.{take-at}
-use Rattle.base.specs.Lists.{total, cut, over}
+use Rattle.base.specs.Lists.{cut, over}
 use Rattle.base.proofs.Cuts.{length-cut, lengths-cut}
-use Rattle.groups.specs.declared.Row.{Row}
-use Rattle.door.specs.Checks.{Passed}
-use Rattle.groups.specs.Rows.{rowOf}
-use Rattle.groups.specs.Soundness.{soundRefusal}
-use Rattle.groups.proofs.Counted.{sound}
+use Rattle.oneway_rows.specs.declared.Row.{Row}
+use Rattle.oneway_rows.specs.Inner.{Parted}
+use Rattle.oneway_rows.specs.Rows.{rowOf}
+use Rattle.oneway_rows.specs.Soundness.{soundRefusal}
+use Rattle.oneway_rows.proofs.Counted.{sound}
 use Rattle.oneway.specs.declared.summary.Summary.{Summary}
-use Rattle.oneway.specs.Summary.{sizeOf, rowMean, rowSqDev, nTotal, groupSizes, groupMeans, groupSqDevs, linesOf, row, summaryOf, Small, Long, Lined}
+use Rattle.oneway.specs.Summary.{sizeOf, rowMean, nTotal, groupSizes, groupMeans}
+use Rattle.oneway.specs.Inner.{rowSqDev, groupSqDevs, linesOf, row, summaryOf, Small, Long, Lined, weights, weighed}
 use Rattle.results.specs.Results.{noSizes, noMeans}
-use Rattle.oneway.specs.Welch.{weightOf, weights, weighed, allWeighed}
+use Rattle.oneway.specs.Welch.{weightOf, allWeighed}
 use Rattle.oneway.proofs.Columns.{lines-of}
 
 -- f of the row of each group
@@ -27,7 +28,7 @@ lengths-are : (gs : List (List Float)) → map sizeOf (map rowOf gs) ≡ map len
 lengths-are [] = refl
 lengths-are (g ∷ gs) = ap (λ (ns : List ℕ). length g ∷ ns) (lengths-are gs)
 
-module _ (xs : List Float) (ns : List ℕ) (p : Passed xs ns) where
+module _ (xs : List Float) (ns : List ℕ) (p : Parted (length xs) ns) where
   pub all-counted : nTotal (map rowOf (cut ns xs)) ≡ length xs
   all-counted = rw (lengths-are (cut ns xs), lengths-cut ns xs (omega (arith, p .sizes .adds))) (p .sizes .adds)
 
@@ -74,7 +75,7 @@ unfolding noSizes
 lined rs h = record { few = h; sizes = omega (arith, over-long (map sizeOf rs) noSizes); first = long-column _ (map rowMean rs) h; second = long-column _ (map rowSqDev rs) h }
 
 -- a summary of groups that passed the checks
-pub lined-groups : (xs : List Float) (ns : List ℕ) → Passed xs ns → (s : Summary) → s ≡ summaryOf (map rowOf (cut ns xs)) → Lined s
+pub lined-groups : (xs : List Float) (ns : List ℕ) → Parted (length xs) ns → (s : Summary) → s ≡ summaryOf (map rowOf (cut ns xs)) → Lined s
 lined-groups xs ns p s e = rw e (lined (map rowOf (cut ns xs)) (rw (length-map (cut ns xs) rowOf, length-cut ns xs) (p .sizes .rows)))
 
 -- rows that the caller holds: few enough, and their summary has a line for each

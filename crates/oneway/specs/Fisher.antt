@@ -1,5 +1,5 @@
 -- Fisher's analysis from the groups' rows rs and all readings xs, operation by operation.
-use Prim.Native.Nat.{ℕ, _-_}
+use Prim.Native.Nat.{_-_}
 use mathlib.Core.Bool.{true}
 use mathlib.Core.List.{List}
 use lib.Ieee.{Float}
@@ -7,7 +7,7 @@ use lib.ListN.{length}
 use Rattle.base.specs.Refusals.{none}
 use Rattle.float.specs.Words.{_⊕_, _⊖_, _⊗_, _⊘_, count, square}
 use Rattle.stats.specs.Sums.{sum, sumBy}
-use Rattle.groups.specs.declared.Row.{Row}
+use Rattle.oneway_rows.specs.declared.Row.{Row}
 use Rattle.results.specs.declared.OneWayAnovaResult.{OneWayAnovaResult}
 use Rattle.oneway.specs.declared.fisher.Squares.{Squares}
 use Rattle.oneway.specs.declared.fisher.Squares.the-variants.{Between, Within}

@@ -1,14 +1,10 @@
--- What an analysis needs of its groups: their rows, column by column.
-use Prim.Native.Nat.{ℕ, _≤_}
-use mathlib.Core.Path.{_≡_}
-use mathlib.Core.List.{List, [], _∷_, map}
+-- What every analysis tells of its groups, from their rows.
+use Prim.Native.Nat.{ℕ}
+use mathlib.Core.List.{List, map}
 use lib.Ieee.{Float}
-use lib.ListN.{length, take}
-use Rattle.base.specs.Limits.{mostGroups, mostReadings}
 use Rattle.base.specs.Lists.{total, over}
-use Rattle.groups.specs.declared.Row.{Row}
+use Rattle.oneway_rows.specs.declared.Row.{Row}
 use Rattle.results.specs.Results.{noSizes, noMeans}
-use Rattle.oneway.specs.declared.summary.Summary.{Summary}
 
 abbrev pub sizeOf : Row → ℕ
 sizeOf r = r .size
@@ -16,52 +12,13 @@ sizeOf r = r .size
 abbrev pub rowMean : Row → Float
 rowMean r = r .mean
 
-abbrev pub rowSqDev : Row → Float
-rowSqDev r = r .«sq_dev»
-
 -- how many readings the rows stand for
 abbrev pub nTotal : List Row → ℕ
 nTotal rs = total (map sizeOf rs)
 
--- the groups' sizes, means and squared distances, and zeros behind them
+-- the groups' sizes and means, and zeros behind them
 abbrev pub groupSizes : List Row → List ℕ
 groupSizes rs = over (map sizeOf rs) noSizes
 
 abbrev pub groupMeans : List Row → List Float
 groupMeans rs = over (map rowMean rs) noMeans
-
-abbrev pub groupSqDevs : List Row → List Float
-groupSqDevs rs = over (map rowSqDev rs) noMeans
-
-abbrev pub summaryOf : List Row → Summary
-summaryOf rs = record { «n_groups» = length rs; «n_total» = nTotal rs; «group_sizes» = groupSizes rs; «group_means» = groupMeans rs; «sq_devs» = groupSqDevs rs }
-
--- three columns read across, line by line
-unfoldable pub lines : {A : Type 0} → (ℕ → Float → Float → A) → List ℕ → List Float → List Float → List A
-lines f [] xs ys = []
-lines f (n ∷ ns) [] ys = []
-lines f (n ∷ ns) (x ∷ xs) [] = []
-lines f (n ∷ ns) (x ∷ xs) (y ∷ ys) = f n x y ∷ lines f ns xs ys
-
--- the first k lines
-abbrev pub linesOf : {A : Type 0} → (ℕ → Float → Float → A) → ℕ → List ℕ → List Float → List Float → List A
-linesOf f k ns xs ys = lines f (take k ns) (take k xs) (take k ys)
-
-abbrev pub row : ℕ → Float → Float → Row
-row n m d = record { size = n; mean = m; «sq_dev» = d }
-
--- columns that have k lines
-pub record Long (k : ℕ) (ns : List ℕ) (xs ys : List Float) : Type 0 where
-  pub few : k ≤ mostGroups
-  pub sizes : k ≤ length ns
-  pub first : k ≤ length xs
-  pub second : k ≤ length ys
-
--- what the formulas ask of a summary: a line for each group
-abbrev pub Lined : Summary → Type 0
-Lined s = Long (s .«n_groups») (s .«group_sizes») (s .«group_means») (s .«sq_devs»)
-
--- what a summary of the first k rows asks, so that counts fit: at most 16 groups with at most 512 readings
-pub record Small (k : ℕ) (rows : List Row) : Type 0 where
-  pub groups : k ≤ mostGroups
-  pub readings : nTotal (take k rows) ≤ mostReadings

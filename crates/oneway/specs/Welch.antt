@@ -4,11 +4,10 @@ use mathlib.Core.Bool.{false, cond}
 use mathlib.Core.List.{List, map}
 use lib.Ieee.{Float, lt}
 use lib.ListN.{length}
-use Rattle.base.specs.Lists.{over}
 use Rattle.base.specs.Refusals.{none}
 use Rattle.float.specs.Words.{_⊕_, _⊖_, _⊗_, _⊘_, count, square, plusZero, one, two, three, largest, tinier}
 use Rattle.stats.specs.Sums.{sumBy}
-use Rattle.groups.specs.declared.Row.{Row}
+use Rattle.oneway_rows.specs.declared.Row.{Row}
 use Rattle.results.specs.declared.OneWayAnovaResult.{OneWayAnovaResult}
 use Rattle.oneway.specs.declared.welch.Weighed.{Weighed}
 use Rattle.oneway.specs.declared.welch.WelchSums.{WelchSums}
@@ -16,7 +15,6 @@ use Rattle.oneway.specs.declared.welch.WelchTest.{WelchTest}
 use Rattle.oneway.specs.declared.welch.Share.{Share}
 use Rattle.oneway.specs.declared.welch.Share.the-variants.{Weight, Mean, Spread, Rest}
 use Rattle.oneway.specs.Summary.{nTotal, groupSizes, groupMeans}
-use Rattle.results.specs.Results.{noMeans}
 
 -- a group's variance, from its row
 abbrev pub rowVariance : Row → Float
@@ -38,13 +36,6 @@ shareOf (Rest weights) w = square (one ⊖ w .weight ⊘ weights) ⊘ count (w .
 
 abbrev pub allWeighed : List Row → List Weighed
 allWeighed rs = map (weigh (length rs)) rs
-
--- the weights alone, and zeros behind them
-abbrev pub weights : List Row → List Float
-weights rs = over (map (weightOf (length rs)) rs) noMeans
-
-abbrev pub weighed : ℕ → Float → Float → Weighed
-weighed n m w = record { size = n; mean = m; weight = w }
 
 -- over the weighed rows ws: the weights, the weighted mean, the spread of the means about it, and the adjustment for unequal variances
 abbrev pub sumWeights : List Weighed → Float

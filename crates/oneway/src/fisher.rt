@@ -1,13 +1,13 @@
 // Fisher's analysis, which takes the groups' variances for equal.
 use crate::summary::Summary;
 use base::Refusal;
-use groups::Row;
+use oneway_rows::Row;
 use results::OneWayAnovaResult;
 ghost use mathlib.Core.Path.{_≡_};
 ghost use mathlib.Core.List.{List};
-ghost use Rattle.groups.specs.declared.Row.{Row};
+ghost use Rattle.oneway_rows.specs.declared.Row.{Row};
 ghost use Rattle.stats.specs.Sums.{sumBy};
-ghost use Rattle.oneway.specs.Summary.{Long, Lined, linesOf, row, summaryOf};
+ghost use Rattle.oneway.specs.Inner.{Long, Lined, linesOf, row, summaryOf};
 ghost use Rattle.oneway.specs.Fisher.{squaresOf, fisherAnova};
 
 // What is added up over the rows.
@@ -28,7 +28,13 @@ fn term(row: Row, what: Squares) -> f64
     }
 }
 
-fn sum_rows(sizes: &[u32; 16], means: &[f64; 16], devs: &[f64; 16], k: usize, what: Squares) -> f64
+fn sum_rows(
+    sizes: &[u32; base::MOST_GROUPS],
+    means: &[f64; base::MOST_GROUPS],
+    devs: &[f64; base::MOST_GROUPS],
+    k: usize,
+    what: Squares,
+) -> f64
     requires { ⌜ Long k (now sizes) (now means) (now devs) ⌝ }
     ensures { λ r. ⌜ r ≡ sumBy (squaresOf what) (linesOf row k (now (sizes .entry)) (now (means .entry)) (now (devs .entry))) ⌝ }
 {

@@ -1,15 +1,16 @@
 // Welch's analysis, which lets the groups' variances differ: each group has a weight.
 use crate::summary::Summary;
 use base::Refusal;
-use groups::Row;
+use oneway_rows::Row;
 use results::OneWayAnovaResult;
 ghost use mathlib.Core.Path.{_≡_};
 ghost use mathlib.Core.List.{List};
 ghost use Prim.Native.Nat.{_≤_};
-ghost use Rattle.groups.specs.declared.Row.{Row};
+ghost use Rattle.base.specs.Limits.{mostGroups};
+ghost use Rattle.oneway_rows.specs.declared.Row.{Row};
 ghost use Rattle.stats.specs.Sums.{sumBy};
-ghost use Rattle.oneway.specs.Summary.{Long, Lined, linesOf, row, summaryOf};
-ghost use Rattle.oneway.specs.Welch.{weigh, weighed, weights, shareOf, welchSums, welchTest, welchAnova};
+ghost use Rattle.oneway.specs.Inner.{Long, Lined, linesOf, row, summaryOf, weighed, weights};
+ghost use Rattle.oneway.specs.Welch.{weigh, shareOf, welchSums, welchTest, welchAnova};
 
 // A row with its weight in place of its squared distances.
 pub struct Weighed {
@@ -57,11 +58,16 @@ fn weigh(row: Row, k: u32) -> Weighed
     }
 }
 
-fn weights(sizes: &[u32; 16], means: &[f64; 16], devs: &[f64; 16], k: usize) -> [f64; 16]
+fn weights(
+    sizes: &[u32; base::MOST_GROUPS],
+    means: &[f64; base::MOST_GROUPS],
+    devs: &[f64; base::MOST_GROUPS],
+    k: usize,
+) -> [f64; base::MOST_GROUPS]
     requires { ⌜ Long k (now sizes) (now means) (now devs) ⌝ }
     ensures { λ r. ⌜ r ≡ weights (linesOf row k (now (sizes .entry)) (now (means .entry)) (now (devs .entry))) ⌝ }
 {
-    let mut out = [0.0; 16];
+    let mut out = [0.0; base::MOST_GROUPS];
     let mut g = 0;
     while g < k {
         let row = Row {
@@ -94,9 +100,9 @@ fn term(row: Weighed, what: Share) -> f64
 }
 
 fn sum_weighed(
-    sizes: &[u32; 16],
-    means: &[f64; 16],
-    weights: &[f64; 16],
+    sizes: &[u32; base::MOST_GROUPS],
+    means: &[f64; base::MOST_GROUPS],
+    weights: &[f64; base::MOST_GROUPS],
     k: usize,
     what: Share,
 ) -> f64
@@ -117,7 +123,12 @@ fn sum_weighed(
     float::canon(t)
 }
 
-fn welch_sums(sizes: &[u32; 16], means: &[f64; 16], weights: &[f64; 16], k: usize) -> WelchSums
+fn welch_sums(
+    sizes: &[u32; base::MOST_GROUPS],
+    means: &[f64; base::MOST_GROUPS],
+    weights: &[f64; base::MOST_GROUPS],
+    k: usize,
+) -> WelchSums
     requires { ⌜ Long k (now sizes) (now means) (now weights) ⌝ }
     ensures { λ r. ⌜ r ≡ welchSums (linesOf weighed k (now (sizes .entry)) (now (means .entry)) (now (weights .entry))) ⌝ }
 {
@@ -133,7 +144,7 @@ fn welch_sums(sizes: &[u32; 16], means: &[f64; 16], weights: &[f64; 16], k: usiz
 
 // F and its degrees of freedom, of k groups.
 fn welch_test(k: u32, sums: WelchSums) -> WelchTest
-    requires { ⌜ k ≤ 16 ⌝ }
+    requires { ⌜ k ≤ mostGroups ⌝ }
     ensures { λ r. ⌜ r ≡ welchTest k sums ⌝ }
 {
     let df_between = base::minus(k, 1) as f64;

@@ -4,9 +4,9 @@ use mathlib.Core.Path.{_≡_}
 use mathlib.Core.List.{List}
 use borrow.Author.Tests.{le-ltb, eq-eqb}
 use lib.Ieee.{Float}
-use Rattle.grid.specs.declared.RmTable.{RmTable}
-use Rattle.subjects.specs.Checks.{Passed}
-use Rattle.grid.specs.Table.{tableOf, rmTable}
+use Rattle.repeated_grid.specs.declared.RmTable.{RmTable}
+use Rattle.repeated_checks.specs.Inner.{Passed}
+use Rattle.repeated_grid.specs.Table.{tableOf, rmTable}
 
 pub table-there : (xs : List Float) (ns : List ℕ) (n k : ℕ) (t : RmTable) → Passed xs ns n k → t ≡ rmTable xs n k → t ≡ tableOf xs n k
 unfolding rmTable

@@ -5,8 +5,8 @@ use mathlib.Core.List.{List}
 use lib.Ieee.{Float}
 use lib.ListN.{length}
 use Rattle.base.specs.Refusals.{guarded}
-use Rattle.subjects.specs.Checks.{conditions, repeatedRefusal}
-use Rattle.grid.specs.Table.{tableOf}
+use Rattle.repeated_checks.specs.Checks.{conditions, repeatedRefusal}
+use Rattle.repeated_grid.specs.Table.{tableOf}
 use Rattle.repeated.specs.declared.RmAnovaResult.{RmAnovaResult}
 use Rattle.repeated.specs.Results.{answerOf, refusedResult}
 

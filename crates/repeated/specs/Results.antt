@@ -7,12 +7,12 @@ use lib.Ieee.{Float}
 use Rattle.base.specs.declared.Refusal.{Refusal}
 use Rattle.base.specs.Refusals.{none}
 use Rattle.float.specs.Words.{_⊖_, _⊗_, _⊘_, count, one, plusZero}
-use Rattle.grid.specs.declared.RmTable.{RmTable}
-use Rattle.grid.specs.Table.{noSubjects, noConditions}
-use Rattle.tables.specs.Rows.{effectRow, plainRow, noRow}
+use Rattle.repeated_grid.specs.declared.RmTable.{RmTable}
+use Rattle.repeated_grid.specs.Table.{noSubjects, noConditions}
+use Rattle.results.specs.Rows.{effectRow, plainRow, noRow}
 use Rattle.results.specs.declared.Corrections.{Corrections}
 use Rattle.results.specs.Corrections.{noCorrections}
-use Rattle.sphericity.specs.Corrections.{computeSphericityCorrections}
+use Rattle.repeated_sphericity.specs.Corrections.{computeSphericityCorrections}
 use Rattle.repeated.specs.declared.RmAnovaResult.{RmAnovaResult}
 
 -- the degrees of freedom, worked out in floats as the source does

@@ -1,7 +1,7 @@
 // The answer of a repeated-measures analysis, once its table is known.
 use crate::RmAnovaResult;
 use base::Refusal;
-use grid::RmTable;
+use repeated_grid::RmTable;
 use results::Corrections;
 ghost use mathlib.Core.Path.{_≡_};
 ghost use Prim.Native.Nat.{_≤_};
@@ -20,7 +20,7 @@ fn asked(compute_sphericity: bool, k: usize) -> bool
 // The results of sphericity, or zeros where it is not asked for.
 fn corrections(
     readings: &[f64],
-    means: [f64; 12],
+    means: [f64; base::MOST_CONDITIONS],
     n: usize,
     k: usize,
     wanted: bool,
@@ -31,7 +31,7 @@ fn corrections(
     ensures { λ r. ⌜ r ≡ correctionsOf (now (readings .entry)) means n k wanted «f_stat» «df_num» «df_den» ⌝ }
 {
     if wanted {
-        return sphericity::compute_sphericity_corrections(
+        return repeated_sphericity::compute_sphericity_corrections(
             readings,
             &means,
             n,
@@ -58,8 +58,8 @@ pub fn answer(
     let k_f = k as f64;
     let means = t.condition_means;
     let subject_means = t.subject_means;
-    let error = tables::plain_row(t.ss_error, (n_f - 1.0) * (k_f - 1.0));
-    let within = tables::effect_row(t.ss_conditions, k_f - 1.0, error.ms);
+    let error = results::plain_row(t.ss_error, (n_f - 1.0) * (k_f - 1.0));
+    let within = results::effect_row(t.ss_conditions, k_f - 1.0, error.ms);
     let wanted = asked(compute_sphericity, k);
     let s = corrections(readings, means, n, k, wanted, within.f, within.df, error.df);
     let mauchly = s.sphericity;
@@ -70,9 +70,9 @@ pub fn answer(
         n_subjects: n,
         n_conditions: k,
         within_subjects: within,
-        subjects: tables::plain_row(t.ss_subjects, n_f - 1.0),
+        subjects: results::plain_row(t.ss_subjects, n_f - 1.0),
         error: error,
-        total: tables::plain_row(t.ss_total, n_f * k_f - 1.0),
+        total: results::plain_row(t.ss_total, n_f * k_f - 1.0),
         has_sphericity: wanted,
         sphericity: mauchly,
         greenhouse_geisser: gg,

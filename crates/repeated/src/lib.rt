@@ -2,9 +2,9 @@
 mod answer;
 
 use base::Refusal;
+use results::AnovaTableRow;
 use results::CorrectedResult;
 use results::SphericityResult;
-use tables::AnovaTableRow;
 ghost use mathlib.Core.Path.{_≡_};
 ghost use Rattle.repeated.specs.Results.{refusedResult};
 ghost use Rattle.repeated.specs.Anova.{repeatedMeasuresAnova};
@@ -23,8 +23,8 @@ pub struct RmAnovaResult {
     pub greenhouse_geisser: CorrectedResult,
     pub huynh_feldt: CorrectedResult,
     pub grand_mean: f64,
-    pub condition_means: [f64; 12],
-    pub subject_means: [f64; 64],
+    pub condition_means: [f64; base::MOST_CONDITIONS],
+    pub subject_means: [f64; base::MOST_SUBJECTS],
 }
 
 // The answer that carries a refusal alone.
@@ -39,17 +39,17 @@ fn refused(refusal: Refusal) -> RmAnovaResult
         refusal: refusal,
         n_subjects: 0,
         n_conditions: 0,
-        within_subjects: tables::no_row(),
-        subjects: tables::no_row(),
-        error: tables::no_row(),
-        total: tables::no_row(),
+        within_subjects: results::no_row(),
+        subjects: results::no_row(),
+        error: results::no_row(),
+        total: results::no_row(),
         has_sphericity: false,
         sphericity: mauchly,
         greenhouse_geisser: gg,
         huynh_feldt: hf,
         grand_mean: 0.0,
-        condition_means: [0.0; 12],
-        subject_means: [0.0; 64],
+        condition_means: [0.0; base::MOST_CONDITIONS],
+        subject_means: [0.0; base::MOST_SUBJECTS],
     }
 }
 
@@ -62,12 +62,12 @@ pub fn repeated_measures_anova(
 ) -> RmAnovaResult
     ensures { λ r. ⌜ r ≡ repeatedMeasuresAnova (now (readings .entry)) (now (sizes .entry)) «compute_sphericity» ⌝ }
 {
-    let refusal = subjects::repeated_refusal(readings, sizes);
+    let refusal = repeated_checks::repeated_refusal(readings, sizes);
     if refusal.number != 0 {
         return refused(refusal);
     }
     let n = sizes.len();
     let k = sizes[0] as usize;
-    let t = grid::rm_table(readings, n, k);
+    let t = repeated_grid::rm_table(readings, n, k);
     answer::answer(readings, n, k, t, compute_sphericity)
 }

@@ -28,7 +28,7 @@ pub fn solve(out: &mut Out, at: usize, option: u32, readings: &[f64]) -> usize {
     let mut m = [0.0; 1152];
     lay(&mut m, matrix, readings, 0);
     lay(&mut m, right, readings, n * n);
-    linear::solve_linear_system(&mut m, n);
+    matrix_linear::solve_linear_system(&mut m, n);
     put(out, at, b"solve", &m, right)
 }
 
@@ -51,7 +51,7 @@ pub fn inverse(out: &mut Out, at: usize, option: u32, readings: &[f64]) -> usize
     };
     let mut m = [0.0; 1152];
     lay(&mut m, left, readings, 0);
-    linear::matrix_inverse(&mut m, n);
+    matrix_linear::matrix_inverse(&mut m, n);
     put(out, at, b"inverse", &m, right)
 }
 
@@ -62,7 +62,7 @@ pub fn determinant(out: &mut Out, at: usize, option: u32, readings: &[f64]) -> u
     }
     let mut m = [0.0; 1152];
     lay_row(&mut m, 0, n * n, readings, 0);
-    let d = linear::matrix_determinant(&mut m, n);
+    let d = matrix_linear::matrix_determinant(&mut m, n);
     lines::numbers(out, at, b"determinant0\n", [0; 3], [d; 10])
 }
 
@@ -74,7 +74,7 @@ pub fn eigenvalues(out: &mut Out, at: usize, option: u32, readings: &[f64]) -> u
     let mut m = [0.0; 121];
     let mut values = [0.0; 11];
     lay_row(&mut m, 0, n * n, readings, 0);
-    eigen::compute_eigenvalues(&mut m, n, &mut values);
+    matrix_eigen::compute_eigenvalues(&mut m, n, &mut values);
     lines::firsts(out, at, b"eigenvalues@\n", n, &values)
 }
 
@@ -86,7 +86,7 @@ pub fn qr(out: &mut Out, at: usize, option: u32, readings: &[f64]) -> usize {
     }
     let mut q = [0.0; 121];
     let mut r = [0.0; 121];
-    eigen::qr_decomposition(readings, n, &mut q, &mut r);
+    matrix_eigen::qr_decomposition(readings, n, &mut q, &mut r);
     let next = lines::firsts(out, at, b"qr@", n * n, &q);
     lines::firsts(out, next, b"@\n", n * n, &r)
 }
@@ -101,7 +101,7 @@ pub fn orthonormalize(out: &mut Out, at: usize, option: u32, readings: &[f64]) -
     }
     let mut c = [0.0; 132];
     lay_row(&mut c, 0, count, readings, 0);
-    orthonormal::orthonormalize(&mut c, p, k);
+    matrix_orthonormal::orthonormalize(&mut c, p, k);
     lines::firsts(out, at, b"orthonormalize@\n", count, &c)
 }
 

@@ -78,10 +78,10 @@ fn each_size(out: &mut Out, at: usize, n: usize, sizes: [u32; 16]) -> usize
 // Kind 9: the view of one group.
 pub fn view(out: &mut Out, at: usize, option: u32, sizes: &[u32], readings: &[f64]) -> usize {
     let g = option as usize;
-    let r = door::group_refusal(readings, sizes, g);
+    let r = oneway_checks::group_refusal(readings, sizes, g);
     if r.number != 0 {
         return lines::refused(out, at, r);
     }
-    let group = door::group(readings, sizes, g);
+    let group = oneway_checks::group(readings, sizes, g);
     lines::list(out, at, b"viewA@\n", [group.len() as u64; 3], group)
 }

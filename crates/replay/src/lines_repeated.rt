@@ -55,11 +55,16 @@ fn table_lines(out: &mut Out, at: usize, r: RmAnovaResult) -> usize {
     )
 }
 
-fn conditions_line(out: &mut Out, at: usize, k: usize, means: [f64; 12]) -> usize {
+fn conditions_line(
+    out: &mut Out,
+    at: usize,
+    k: usize,
+    means: [f64; base::MOST_CONDITIONS],
+) -> usize {
     lines::firsts(out, at, b"condition_means@\n", k, &means)
 }
 
-fn subjects_line(out: &mut Out, at: usize, n: usize, means: [f64; 64]) -> usize {
+fn subjects_line(out: &mut Out, at: usize, n: usize, means: [f64; base::MOST_SUBJECTS]) -> usize {
     lines::firsts(out, at, b"subject_means@\n", n, &means)
 }
 

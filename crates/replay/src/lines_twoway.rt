@@ -95,7 +95,13 @@ fn mean_lines(out: &mut Out, at: usize, r: TwoWayAnovaResult) -> usize {
     margins_line(out, after_a, b"margins_b@\n", b, means_b)
 }
 
-fn cells_line(out: &mut Out, at: usize, a: usize, b: usize, means: [f64; 36]) -> usize {
+fn cells_line(
+    out: &mut Out,
+    at: usize,
+    a: usize,
+    b: usize,
+    means: [f64; base::MOST_CELLS],
+) -> usize {
     if a > 6 {
         return at;
     }
@@ -105,7 +111,13 @@ fn cells_line(out: &mut Out, at: usize, a: usize, b: usize, means: [f64; 36]) ->
     lines::list(out, at, b"cells@\n", [0; 3], &means[..a * b])
 }
 
-fn margins_line(out: &mut Out, at: usize, form: &[u8], n: usize, means: [f64; 6]) -> usize {
+fn margins_line(
+    out: &mut Out,
+    at: usize,
+    form: &[u8],
+    n: usize,
+    means: [f64; base::MOST_LEVELS],
+) -> usize {
     lines::firsts(out, at, form, n, &means)
 }
 

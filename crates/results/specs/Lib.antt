@@ -1,2 +1,4 @@
 pub mod Results
+pub mod Rows
+pub mod Effects
 pub mod Corrections

@@ -1,7 +1,10 @@
-// What analyses answer, where more than one crate makes the answer: one-way, and the corrections for a lack of sphericity.
+// What analyses answer, where more than one crate makes the answer: one-way, the rows of a table, the effects of two factors, and the corrections for a
+// lack of sphericity.
 use base::Refusal;
 ghost use mathlib.Core.Path.{_≡_};
 ghost use Rattle.results.specs.Results.{refusedResult};
+ghost use Rattle.results.specs.Rows.{effectRow, plainRow, noRow};
+ghost use Rattle.results.specs.Effects.{noEffects};
 ghost use Rattle.results.specs.Corrections.{noCorrected, noCorrections};
 
 // The answer of a one-way analysis. What Welch's has not is zero beside a mark that says so.
@@ -47,6 +50,73 @@ pub fn refused(refusal: Refusal) -> OneWayAnovaResult
         group_means: [0.0; 16],
         has_grand_mean: false,
         grand_mean: 0.0,
+    }
+}
+
+// One row of the table: `f` is the source's `f_statistic`. Where there is no F, it is zero beside a mark that says so.
+pub struct AnovaTableRow {
+    pub ss: f64,
+    pub df: f64,
+    pub ms: f64,
+    pub has_f: bool,
+    pub f: f64,
+}
+
+// An effect: with its F over the error's mean square.
+pub fn effect_row(ss: f64, df: f64, ms_error: f64) -> AnovaTableRow
+    ensures { λ r. ⌜ r ≡ effectRow ss df «ms_error» ⌝ }
+{
+    let ms = float::canon(ss / df);
+    AnovaTableRow {
+        ss: float::canon(ss),
+        df: float::canon(df),
+        ms: ms,
+        has_f: true,
+        f: float::canon(ms / ms_error),
+    }
+}
+
+// Errors and totals have no F.
+pub fn plain_row(ss: f64, df: f64) -> AnovaTableRow
+    ensures { λ r. ⌜ r ≡ plainRow ss df ⌝ }
+{
+    AnovaTableRow {
+        ss: float::canon(ss),
+        df: float::canon(df),
+        ms: float::canon(ss / df),
+        has_f: false,
+        f: 0.0,
+    }
+}
+
+// The row of a refused analysis.
+pub fn no_row() -> AnovaTableRow
+    ensures { λ r. ⌜ r ≡ noRow ⌝ }
+{
+    AnovaTableRow {
+        ss: 0.0,
+        df: 0.0,
+        ms: 0.0,
+        has_f: false,
+        f: 0.0,
+    }
+}
+
+// The sums of squares of factor A, of factor B and of their interaction.
+pub struct Effects {
+    pub ss_a: f64,
+    pub ss_b: f64,
+    pub ss_ab: f64,
+}
+
+// Nothing but zeros: the effects of a design that does not fit.
+pub fn no_effects() -> Effects
+    ensures { λ r. ⌜ r ≡ noEffects ⌝ }
+{
+    Effects {
+        ss_a: 0.0,
+        ss_b: 0.0,
+        ss_ab: 0.0,
     }
 }
 

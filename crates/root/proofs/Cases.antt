@@ -16,7 +16,8 @@ use borrow.Author.Tests.{ltb-true, ltb-false, eqb-true}
 use Rattle.float.specs.Words.{bits, plusZero}
 use Rattle.float.proofs.Tested.{is-tested}
 use Rattle.float.proofs.Patterns.{pattern-number}
-use Rattle.root.specs.Root.{infinity, sqrtOf, rootBits}
+use Rattle.root.specs.Root.{sqrtOf, rootBits}
+use Rattle.root.specs.Nearest.{infinity}
 use Rattle.root.proofs.Scaled.{rootBits-is, long-range, exponent-range}
 
 -- A NaN.

@@ -6,7 +6,8 @@ use native.Mathlib.Numerals.{add-one}
 use native.Mathlib.Omega.{arith}
 use mathlib.Core.Bool.{Bool, true, false, not, cond}
 use lib.Dec.{T, leb, leb→le, nleb→lt}
-use Rattle.root.specs.Root.{IsFloor, grow, isqrt}
+use Rattle.root.specs.Root.{grow, isqrt}
+use Rattle.root.specs.Inner.{IsFloor}
 use Rattle.root.proofs.Longer.{root-lt}
 
 floor-le : (n r s : ℕ) → IsFloor n r → IsFloor n s → r ≤ s

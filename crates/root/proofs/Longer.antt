@@ -4,7 +4,7 @@ use Prim.Native.Nat.{ℕ, zero, suc, _+_, _-_, _*_, _/_, _%_, _≤_, _<_}
 use native.Mathlib.Nat.{le-trans, le-of-eq, le-of-lt, lt-of-le-of-lt, le-of-suc-le-suc, lt-of-not-le, not-le-of-lt, mul-add, add-mul, mul-comm, mul-assoc, mul-left-comm, add-assoc, add-comm, add-left-comm, mul-le-mul, mul-le-mul-left, mul-le-mul-right, mul-lt-mul-of-pos-right, mul-one, one-mul, div-le-of-le-mul, div-add-mod', mod-lt, two-mul}
 use native.Mathlib.Numerals.{add-one}
 use native.Mathlib.Omega.{arith}
-use Rattle.root.specs.Root.{IsFloor}
+use Rattle.root.specs.Inner.{IsFloor}
 
 -- The square of one more than a number.
 pub next-square : (r : ℕ) → (r + 1) * (r + 1) ≡ r * r + (r + r + 1)

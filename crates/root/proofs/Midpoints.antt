@@ -8,8 +8,9 @@ use native.Mathlib.Omega.{arith}
 use mathlib.Core.Bool.{Bool, true, false, not}
 use lib.Dec.{T, ltb, ltb→lt, nltb→le}
 use lib.Pow.{pow-add, pow-pos}
-use Rattle.root.specs.Root.{infinity, lead, IsFloor, significand, exponent, radicand}
-use Rattle.root.specs.Nearest.{square, at, midpoint}
+use Rattle.root.specs.Root.{lead, significand, exponent, radicand}
+use Rattle.root.specs.Inner.{IsFloor}
+use Rattle.root.specs.Nearest.{infinity, square, at, midpoint}
 use Rattle.root.proofs.Longer.{next-square}
 use Rattle.root.proofs.Floor.{four}
 use Rattle.root.proofs.Scaled.{either, low-of, significand-by, significand-high, exponent-by, exponent-high, radicand-is}

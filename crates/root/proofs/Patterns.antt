@@ -13,8 +13,8 @@ use lib.Ieee.{Float, nan, inf, fin, binary64, down, odd, ofFields, ofBits}
 use lib.Ieee.Digits.{Equals, odd-val}
 use lib.Ieee.Fits.{down-pos}
 use lib.Ieee.Bits.{is-false, cond-no}
-use Rattle.root.specs.Root.{infinity, lead}
-use Rattle.root.specs.Nearest.{size, at}
+use Rattle.root.specs.Root.{lead}
+use Rattle.root.specs.Nearest.{infinity, size, at}
 
 size-of : (x : Float) (a : ℕ) → Equals x a (2 ^ 1074) → size x ≡ a
 unfolding size

@@ -7,8 +7,8 @@ use mathlib.Core.Bool.{true, false}
 use lib.Dec.{T}
 use lib.Ieee.{Float, nan, inf, fin, binary64, fits, toBits}
 use lib.Ieee.Bits.{ofBits-toBits}
-use Rattle.root.specs.Root.{infinity, lead, exponent, rootBits, sqrtOf}
-use Rattle.root.specs.Nearest.{square, at, midpoint, fourfold, Closest, IsRoot}
+use Rattle.root.specs.Root.{lead, exponent, rootBits, sqrtOf}
+use Rattle.root.specs.Nearest.{infinity, square, at, midpoint, fourfold, Closest, IsRoot}
 use Rattle.root.proofs.Scaled.{exponent-range, long, long-floor, long-range, rootBits-is}
 use Rattle.root.proofs.Cases.{Above, root-above, bits-range}
 use Rattle.root.proofs.Unique.{one-root}

@@ -10,7 +10,9 @@ use lib.Dec.{T, ltb, ltb→lt, nltb→le}
 use lib.Count.{leadingZeros, leading-top}
 use lib.Pow.{pow-add, pow-pos, pow-mono}
 use borrow.Author.Tests.{lt-ltb, le-ltb}
-use Rattle.root.specs.Root.{infinity, lead, IsFloor, significand, exponent, radicand, isqrt, rootBits}
+use Rattle.root.specs.Root.{lead, significand, exponent, radicand, isqrt, rootBits}
+use Rattle.root.specs.Inner.{IsFloor}
+use Rattle.root.specs.Nearest.{infinity}
 use Rattle.root.proofs.Longer.{root-lt}
 use Rattle.root.proofs.Floor.{isqrt-floor, floor-unique}
 

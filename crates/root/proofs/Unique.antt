@@ -7,8 +7,7 @@ use native.Mathlib.Omega.{arith}
 use mathlib.Core.Bool.{Bool, true, false, not}
 use lib.Dec.{T, ltb, ltb→lt, nltb→le}
 use lib.Ieee.{Float, nan, inf, fin, binary64, ofBits}
-use Rattle.root.specs.Root.{infinity}
-use Rattle.root.specs.Nearest.{square, midpoint, fourfold, Closest, IsRoot}
+use Rattle.root.specs.Nearest.{infinity, square, midpoint, fourfold, Closest, IsRoot}
 use Rattle.root.proofs.Patterns.{at-next, at-mono}
 use Rattle.root.proofs.Longer.{square-lt}
 

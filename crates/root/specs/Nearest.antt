@@ -7,7 +7,10 @@ use Prim.Native.Nat.{ℕ, zero, suc, _+_, _-_, _*_, _/_, _%_, _^_, _≤_, _<_}
 use mathlib.Core.Bool.{true, false}
 use lib.Ieee.{Float, nan, inf, fin, up, down}
 use Rattle.float.specs.Words.{bits}
-use Rattle.root.specs.Root.{infinity}
+
+-- The pattern of the infinity: the finite numbers above zero have the patterns from 1 up to it.
+abbrev pub infinity : ℕ
+infinity = 0x7FF0000000000000
 
 -- The size of a finite number in units of 2 ^ -1074. The division leaves no rest where a double holds the number.
 unfoldable pub size : Float → ℕ

@@ -1,6 +1,6 @@
 -- How the square root of a double is worked out, in whole numbers, from its bit pattern. What a square root is, is said in `Nearest.antt`, and
 -- `proofs/Right.antt` proves that this gives it.
-use Prim.Native.Nat.{ℕ, zero, suc, _+_, _-_, _*_, _/_, _%_, _^_, _≤_, _<_}
+use Prim.Native.Nat.{ℕ, zero, suc, _+_, _-_, _*_, _/_, _%_, _^_}
 use mathlib.Core.Bool.{true, false, cond}
 use lib.Dec.{leb, ltb}
 use lib.Count.{leadingZeros}
@@ -10,14 +10,6 @@ use Rattle.float.specs.Words.{bits}
 -- 2 ^ 52: the weight of the exponent's field in a bit pattern, and of the leading digit in a significand of 53 digits
 abbrev pub lead : ℕ
 lead = 4503599627370496
-
--- the pattern of the infinity: the finite numbers above zero have the patterns from 1 up to it
-abbrev pub infinity : ℕ
-infinity = 0x7FF0000000000000
-
--- r is the root of n, cut to a whole number.
-abbrev pub IsFloor : ℕ → ℕ → Type 0
-IsFloor n r = (r * r ≤ n) × (n < (r + 1) * (r + 1))
 
 -- One binary digit more: from r, the root of n / 4, to the root of n.
 abbrev pub grow : ℕ → ℕ → ℕ

@@ -1,7 +1,9 @@
 // The square root of a double, correctly rounded. There is no such operation to call, so the number is read off its bit pattern and its root is found in whole numbers.
 ghost use mathlib.Core.Path.{_≡_};
 ghost use Prim.Native.Nat.{_*_, _^_, _≤_, _<_};
-ghost use Rattle.root.specs.Root.{infinity, IsFloor, significand, exponent, rootBits, sqrtOf};
+ghost use Rattle.root.specs.Root.{significand, exponent, rootBits, sqrtOf};
+ghost use Rattle.root.specs.Inner.{IsFloor};
+ghost use Rattle.root.specs.Nearest.{infinity};
 
 // A first guess at the root of n. For an n from 2^52 on it lies on one of two straight lines, and is at most 8 in 1000 off.
 fn guess(n: u64) -> u64

@@ -10,7 +10,7 @@ use lib.ListN.{length, take, drop, length-map, length-append, length-drop}
 use lib.Seq.{take-at}
 use Rattle.base.specs.declared.Refusal.{Refusal}
 use Rattle.base.specs.Lists.{total, words}
-use Rattle.base.specs.Refusals.{refuse, none, when, unless, guarded}
+use Rattle.base.specs.Refusals.{refuse, none, when}
 use Rattle.base.proofs.Order.{both-passed, no-fault, needed-there, told, told-which, passed-answer, answers-numbers}
 use Rattle.base.proofs.Parts.{rest-part}
 use Rattle.base.proofs.Words.{length-words}
@@ -21,7 +21,8 @@ use Rattle.oneway.specs.Anova.{oneWayAnova}
 use Rattle.set.specs.declared.Contents.{Contents}
 use Rattle.set.specs.declared.ReadingSet.{ReadingSet}
 use Rattle.set.specs.Bytes.{little, reading}
-use Rattle.set.specs.Sets.{groupCount, contentsLength, setLength, setSizes, setReadings, setRefusal, contentsOf, bodyOf, setOf, refusedSet, readSet, setAnova}
+use Rattle.set.specs.Sets.{groupCount, contentsLength, setLength, setSizes, setReadings, setRefusal, setOf, refusedSet, readSet, setAnova}
+use Rattle.set.specs.Inner.{contentsOf, bodyOf}
 
 pub record Headed (bs : List ℕ) : Type 0 where
   pub two : 2 ≤ length bs

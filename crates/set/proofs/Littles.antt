@@ -1,5 +1,5 @@
 -- Laws of numbers in bytes: read from the end, and how large they are.
-use mathlib.Core.Path.{_≡_, refl, sym, _∙_, ap}
+use mathlib.Core.Path.{_≡_, refl, _∙_, ap}
 use mathlib.Core.List.{List, [], _∷_, _++_, map, append-nil}
 use Prim.Native.Nat.{ℕ, zero, suc, _+_, _-_, _*_, _/_, _%_, _^_, _<_, _≤_}
 use native.Mathlib.Omega.{arith}
@@ -8,7 +8,7 @@ use native.Mathlib.Numerals.{add-one}
 use lib.ListN.{length, drop, take, getD, set, length-drop, length-map, drop-of-length-le, List·getD-map}
 use lib.Seq.{drop-cons, getD-drop, sets, sets-eq}
 use Rattle.base.specs.Lists.{total, words}
-use Rattle.base.proofs.Cuts.{total-turn, total-done}
+use Rattle.base.proofs.Cuts.{total-turn}
 use Rattle.base.proofs.Words.{word-at, length-words}
 use Rattle.set.specs.Bytes.{little, bytes}
 

@@ -1,6 +1,6 @@
 -- What a reading set says, and which sets are refused. bs are the bytes.
 use Prim.Native.Nat.{ℕ, _+_, _*_}
-use mathlib.Core.List.{List, [], map}
+use mathlib.Core.List.{List, map}
 use lib.Dec.{ltb, eqb}
 use lib.Ieee.{Float}
 use lib.ListN.{length, take, drop, replicate}
@@ -14,7 +14,6 @@ use Rattle.results.specs.declared.OneWayAnovaResult.{OneWayAnovaResult}
 use Rattle.results.specs.Results.{refusedResult, noSizes}
 use Rattle.oneway.specs.Anova.{oneWayAnova}
 use Rattle.set.specs.declared.ReadingSet.{ReadingSet}
-use Rattle.set.specs.declared.Contents.{Contents}
 use Rattle.set.specs.Bytes.{little, reading}
 
 -- the group count: the first two bytes
@@ -32,6 +31,10 @@ contentsLength bs = 2 + groupCount bs * 2
 abbrev pub setLength : List ℕ → ℕ
 setLength bs = contentsLength bs + total (setSizes bs) * 8
 
+-- how long a set can be
+abbrev pub longestSet : ℕ
+longestSet = 2 + mostGroups * 2 + mostReadings * 8
+
 -- the readings: as many eights of bytes behind the contents as the sizes add up to
 abbrev pub setReadings : List ℕ → List Float
 setReadings bs = map reading (words 8 (total (setSizes bs)) (drop (contentsLength bs) bs))
@@ -48,12 +51,6 @@ setRefusal bs =
 -- sizes and readings in their arrays, and zeros behind them
 unfoldable pub noReadings : List Float
 noReadings = replicate mostReadings plusZero
-
-abbrev pub contentsOf : List ℕ → Contents
-contentsOf ns = record { sizes = over ns noSizes; total = total ns }
-
-abbrev pub bodyOf : List Float → List Float
-bodyOf xs = over xs noReadings
 
 abbrev pub refusedSet : Refusal → ReadingSet
 refusedSet r = record { refusal = r; «n_groups» = 0; «n_total» = 0; sizes = noSizes; readings = noReadings }

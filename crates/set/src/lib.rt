@@ -6,23 +6,28 @@ ghost use mathlib.Core.Path.{_≡_};
 ghost use mathlib.Core.List.{map};
 ghost use Prim.Native.Nat.{ℕ, _≤_, _*_};
 ghost use lib.ListN.{length, replicate};
+ghost use Rattle.base.specs.Limits.{mostGroups, mostReadings};
 ghost use Rattle.base.specs.Lists.{over, words};
 ghost use Rattle.float.specs.Words.{plusZero};
 ghost use Rattle.set.specs.Bytes.{little, reading, bytes};
-ghost use Rattle.set.specs.Sets.{contentsOf, bodyOf, setRefusal, readSet, refusedSet, setAnova};
+ghost use Rattle.set.specs.Sets.{setRefusal, readSet, refusedSet, setAnova};
+ghost use Rattle.set.specs.Inner.{contentsOf, bodyOf};
+
+// How long a set can be: the count, as many sizes as there can be groups, and as many readings as a call takes.
+pub const LONGEST: usize = 2 + base::MOST_GROUPS * 2 + base::MOST_READINGS * 8;
 
 // A set that was read: its sizes and its readings, and zeros behind them; or a refusal.
 pub struct ReadingSet {
     pub refusal: Refusal,
     pub n_groups: usize,
     pub n_total: usize,
-    pub sizes: [u32; 16],
-    pub readings: [f64; 512],
+    pub sizes: [u32; base::MOST_GROUPS],
+    pub readings: [f64; base::MOST_READINGS],
 }
 
 // The sizes in a set's contents, and how many readings they add up to.
 pub struct Contents {
-    pub sizes: [u32; 16],
+    pub sizes: [u32; base::MOST_GROUPS],
     pub total: u32,
 }
 
@@ -43,10 +48,10 @@ fn number(bytes: &[u8]) -> u64
 
 // The k sizes at the front of `bytes`.
 fn sizes_in(bytes: &[u8], k: usize) -> Contents
-    requires { ⌜ (k ≤ 16) × (k * 2 ≤ length (now bytes)) ⌝ }
+    requires { ⌜ (k ≤ mostGroups) × (k * 2 ≤ length (now bytes)) ⌝ }
     ensures { λ r. ⌜ r ≡ contentsOf (map little (words 2 k (now (bytes .entry)))) ⌝ }
 {
-    let mut sizes = [0u32; 16];
+    let mut sizes = [0u32; base::MOST_GROUPS];
     let mut total: u32 = 0;
     let mut g = 0;
     while g < k {
@@ -63,11 +68,11 @@ fn sizes_in(bytes: &[u8], k: usize) -> Contents
 }
 
 // The n readings at the front of `bytes`, and zeros behind them. A NaN's pattern is met without an undefined step.
-fn readings_in(bytes: &[u8], n: usize) -> [f64; 512]
-    requires { ⌜ (n ≤ 512) × (n * 8 ≤ length (now bytes)) ⌝ }
+fn readings_in(bytes: &[u8], n: usize) -> [f64; base::MOST_READINGS]
+    requires { ⌜ (n ≤ mostReadings) × (n * 8 ≤ length (now bytes)) ⌝ }
     ensures { λ r. ⌜ r ≡ bodyOf (map reading (words 8 n (now (bytes .entry)))) ⌝ }
 {
-    let mut readings = [0.0; 512];
+    let mut readings = [0.0; base::MOST_READINGS];
     let mut i = 0;
     while i < n {
         let at = i * 8;
@@ -111,8 +116,8 @@ fn refused(refusal: Refusal) -> ReadingSet
         refusal: refusal,
         n_groups: 0,
         n_total: 0,
-        sizes: [0; 16],
-        readings: [0.0; 512],
+        sizes: [0; base::MOST_GROUPS],
+        readings: [0.0; base::MOST_READINGS],
     }
 }
 

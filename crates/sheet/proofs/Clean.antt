@@ -1,42 +1,25 @@
 -- Groups that a load accepts.
-use mathlib.Core.Path.{_≡_, refl, sym, ap, _∙_}
-use mathlib.Core.Bool.{Bool, true, false, cond}
-use mathlib.Core.List.{List, [], _∷_, _++_, map, flatten, append-nil}
+use mathlib.Core.Path.{_≡_, refl}
+use mathlib.Core.Bool.{false}
+use mathlib.Core.List.{List, [], _∷_, map, flatten, append-nil}
 use Prim.Native.Nat.{ℕ, zero, suc, _+_, _≤_, _<_}
 use native.Mathlib.Nat.{not-suc-le-zero, le-of-suc-le-suc}
 use native.Mathlib.Omega.{arith}
 use borrow.Author.Tests.{le-ltb, eq-eqb, eqb-false}
 use lib.Dec.{ltb}
-use lib.Ieee.{Float, isNan}
-use lib.ListN.{length, getD, take, drop, set, length-append, length-map}
+use lib.Ieee.{Float}
+use lib.ListN.{length, getD, set, length-append, length-map}
 use lib.Seq.{length-take-le}
 use Rattle.base.specs.Lists.{total, cut}
-use Rattle.base.specs.Refusals.{refuse, none, when, _orElse_, firstFault}
+use Rattle.base.specs.Refusals.{refuse, none, when, firstFault}
 use Rattle.base.proofs.Cuts.{length-cut, flatten-cut, cut-flatten, total-flatten}
 use Rattle.base.proofs.Order.{both-passed, no-fault}
-use Rattle.stats.specs.Sums.{hasNan}
-use Rattle.stats.proofs.Adding.{no-nan-from}
+use Rattle.stats.specs.Sums.{some, hasNan}
 use Rattle.base.specs.Sizes.{sizesRefusal}
-use Rattle.door.specs.Checks.{groupFault, groupsRefusal, oneWayRefusal}
-use Rattle.groups.specs.Soundness.{someOutside}
-use Rattle.groups.proofs.Counted.{not-outside}
-use Rattle.door.proofs.Doors.{passed, two-there}
-
--- readings without a NaN stay so
-pub no-append : (xs ys : List Float) → hasNan xs ≡ false → hasNan ys ≡ false → hasNan (xs ++ ys) ≡ false
-unfolding hasNan
-no-append [] ys e f = f
-no-append (x ∷ xs) ys e f =
-    let p = no-nan-from x xs e in
-    rw (p .0) (no-append xs ys (p .1) f)
-
-pub no-set : (xs : List Float) (i : ℕ) (x : Float) → hasNan xs ≡ false → isNan x ≡ false → hasNan (set xs i x) ≡ false
-unfolding hasNan
-no-set [] i x e f = refl
-no-set (y ∷ ys) zero x e f = rw f (no-nan-from y ys e .1)
-no-set (y ∷ ys) (suc i) x e f =
-    let p = no-nan-from y ys e in
-    rw (p .0) (no-set ys i x (p .1) f)
+use Rattle.oneway_checks.specs.Checks.{groupFault, groupsRefusal, oneWayRefusal}
+use Rattle.oneway_rows.specs.Soundness.{someOutside}
+use Rattle.oneway_rows.proofs.Counted.{not-outside}
+use Rattle.oneway_checks.proofs.Doors.{passed, two-there}
 
 -- each group has two readings, and no NaN
 abbrev pub Clean : List (List Float) → Type 0
@@ -57,7 +40,7 @@ passed-clean k (xs ∷ gs) z =
     (two-there k xs (p .0), no-fault (hasNan xs) (refuse 4 k 0) (eqb-false 4 0 refl) (q .1), passed-clean (k + 1) gs (p .1))
 
 pub clean-at : (gs : List (List Float)) (g : ℕ) → Clean gs → hasNan (getD gs g []) ≡ false
-unfolding hasNan
+unfolding some
 clean-at [] g c = refl
 clean-at (xs ∷ gs) zero c = c .1
 clean-at (xs ∷ gs) (suc g) c = clean-at gs g (c .2)

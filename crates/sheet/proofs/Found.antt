@@ -1,34 +1,27 @@
 -- Where a group of a sound sheet lies, and the sheet that an edit of it makes.
-use mathlib.Core.Path.{_≡_, refl, sym, ap, _∙_}
-use mathlib.Core.List.{List, [], _∷_, _++_, flatten}
+use mathlib.Core.Path.{_≡_, refl, ap, _∙_}
+use mathlib.Core.List.{List, [], _++_, flatten}
 use Prim.Native.Nat.{ℕ, suc, _+_, _-_, _≤_, _<_}
 use native.Mathlib.Numerals.{add-one}
-use native.Mathlib.Nat.{add-sub-cancel-left}
 use native.Mathlib.Omega.{arith}
 use lib.Ieee.{Float}
-use lib.ListN.{length, getD, take, drop, set, length-append, length-set, length-drop}
+use lib.ListN.{length, getD, take, drop, set, length-drop}
 use lib.Seq.{length-take-le}
-use Rattle.base.specs.declared.Refusal.{Refusal}
-use Rattle.base.specs.Lists.{total, cut}
-use Rattle.base.specs.Refusals.{none}
-use Rattle.base.proofs.Cuts.{total-split, total-turn, cut-at}
+use Rattle.base.specs.Lists.{total}
+use Rattle.base.proofs.Cuts.{total-split, cut-at}
 use Rattle.base.proofs.Edits.{flatten-set}
 use Rattle.base.proofs.Sizes.{total-next}
 use Rattle.base.proofs.Firsts.{take-firsts}
-use Rattle.base.proofs.Order.{answers-numbers}
-use Rattle.groups.specs.declared.Row.{Row}
-use Rattle.groups.specs.Rows.{rowOf, rowAnswer}
-use Rattle.groups.specs.Soundness.{sizesIn, Sound}
-use Rattle.groups.proofs.Counted.{unread, length-sizes, size-at}
-use Rattle.groups.proofs.Laid.{row-there}
-use Rattle.oneway.specs.Summary.{Small}
+use Rattle.oneway_rows.specs.declared.Row.{Row}
+use Rattle.oneway_rows.specs.Rows.{rowOf, rowAnswer}
+use Rattle.oneway_rows.specs.Soundness.{sizesIn}
+use Rattle.oneway_rows.proofs.Counted.{Sound, unread, length-sizes, size-at}
+use Rattle.oneway_rows.proofs.Laid.{row-there}
+use Rattle.oneway.specs.Inner.{Small}
 use Rattle.sheet.specs.declared.Sheet.{Sheet}
-use Rattle.sheet.specs.declared.Edit.{Edit}
-use Rattle.sheet.specs.Moved.{inserted, deleted}
 use Rattle.sheet.specs.Sheets.{sizesOf, groupsOf, edited}
-use Rattle.sheet.specs.Calls.{Call, Replace, Append, Remove, judge, refusalOf, target, fresh, accepted, refusedWith, callOf}
-use Rattle.sheet.proofs.Judged.{Open, opened, in-range, asked, replace-passed, append-passed, remove-passed}
-use Rattle.sheet.proofs.Relaid.{relaid, group-relaid, replaced, appended, removed}
+use Rattle.sheet.proofs.Judged.{Open}
+use Rattle.sheet.proofs.Relaid.{relaid, group-relaid}
 
 -- where group g begins; where all readings end, for the number of groups
 abbrev pub start : Sheet → ℕ → ℕ

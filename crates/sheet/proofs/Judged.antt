@@ -1,9 +1,9 @@
 -- What the checks before an edit say of the rows, and what they leave known where they are passed.
-use mathlib.Core.Path.{_≡_, refl, sym, ap, _∙_}
-use mathlib.Core.Bool.{true, false}
+use mathlib.Core.Path.{_≡_, refl, sym, ap}
+use mathlib.Core.Bool.{false}
 use mathlib.Core.List.{List, [], _∷_}
 use Prim.Native.Nat.{ℕ, zero, suc, _+_, _<_, _≤_}
-use native.Mathlib.Nat.{not-suc-le-zero, le-of-suc-le-suc}
+use native.Mathlib.Nat.{not-suc-le-zero}
 use native.Mathlib.Omega.{arith}
 use borrow.Author.Tests.{le-leb, lt-leb, leb-false, eqb-false}
 use lib.Dec.{leb}
@@ -11,12 +11,12 @@ use lib.Ieee.{Float, isNan}
 use lib.ListN.{length, getD, List·getD-eq-default}
 use Rattle.base.specs.declared.Refusal.{Refusal}
 use Rattle.base.specs.Lists.{total}
-use Rattle.base.specs.Refusals.{refuse, none, when, _orElse_}
+use Rattle.base.specs.Refusals.{refuse, none, _orElse_}
 use Rattle.base.proofs.Faults.{checks-in-order, stops-there, goes-beyond}
 use Rattle.base.proofs.Order.{both-passed, no-fault}
-use Rattle.groups.specs.declared.Row.{Row}
-use Rattle.groups.specs.Soundness.{sizesIn, soundRefusal, Sound}
-use Rattle.groups.proofs.Counted.{unread, length-sizes, size-at, sound, sound-passes, inside-at}
+use Rattle.oneway_rows.specs.declared.Row.{Row}
+use Rattle.oneway_rows.specs.Soundness.{sizesIn, soundRefusal}
+use Rattle.oneway_rows.proofs.Counted.{Sound, unread, length-sizes, size-at, sound, sound-passes, inside-at}
 use Rattle.sheet.specs.Calls.{Call, Replace, Append, Remove, noPlace, newNan, full, lastTwo, judge, refusalOf, target}
 
 module _ (k : ℕ) (rows : List Row) (g p : ℕ) where

@@ -1,29 +1,29 @@
 -- What a call leaves alone, on any sheet, from load or not.
-use mathlib.Core.Path.{_≡_, refl, sym, ap, _∙_}
+use mathlib.Core.Path.{_≡_, refl, sym, ap}
 use mathlib.Core.Bool.{Bool, true, false, cond}
-use mathlib.Core.List.{List, [], _++_, map, flatten}
+use mathlib.Core.List.{List, [], map}
 use mathlib.Core.Logic.{_≢_}
-use Prim.Native.Nat.{ℕ, _+_, _≤_, _<_}
+use Prim.Native.Nat.{ℕ, _≤_, _<_}
 use native.Mathlib.Omega.{arith}
-use borrow.Author.Tests.{eqb-true, eqb-false}
+use borrow.Author.Tests.{eqb-true}
 use lib.Dec.{eqb}
 use lib.Ieee.{Float}
-use lib.ListN.{length, getD, take, drop, set, replicate, length-map}
+use lib.ListN.{length, getD, take, set}
 use lib.Seq.{getD-set-other, take-set-lt}
 use Rattle.base.specs.declared.Refusal.{Refusal}
-use Rattle.base.specs.Lists.{total, cut, over}
-use Rattle.base.specs.Refusals.{none, guarded}
+use Rattle.base.specs.Lists.{total, cut}
+use Rattle.base.specs.Refusals.{guarded}
 use Rattle.base.proofs.Cuts.{cut-flatten, lengths-cut}
 use Rattle.base.proofs.Edits.{map-set}
 use Rattle.base.proofs.Order.{passed-answer, refused-answer}
-use Rattle.groups.specs.declared.Row.{Row}
-use Rattle.groups.specs.Rows.{rowOf}
-use Rattle.groups.specs.Soundness.{sizesIn}
-use Rattle.groups.proofs.Counted.{length-sizes}
+use Rattle.oneway_rows.specs.declared.Row.{Row}
+use Rattle.oneway_rows.specs.Rows.{rowOf}
+use Rattle.oneway_rows.specs.Soundness.{sizesIn}
+use Rattle.oneway_rows.proofs.Counted.{length-sizes}
 use Rattle.sheet.specs.declared.Sheet.{Sheet}
 use Rattle.sheet.specs.declared.Edit.{Edit}
 use Rattle.sheet.specs.Sheets.{sizesOf, groupsOf, edited}
-use Rattle.sheet.specs.Calls.{Call, Replace, Append, Remove, judge, refusalOf, target, renewed, accepted, refusedWith, callOf}
+use Rattle.sheet.specs.Calls.{Call, refusalOf, target, renewed, accepted, refusedWith, callOf}
 use Rattle.sheet.proofs.Judged.{asked, refusal-none, group-there}
 
 module _ (c : Call) (s : Sheet) where

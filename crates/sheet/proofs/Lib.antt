@@ -1,9 +1,9 @@
-pub mod Moves
 pub mod Judged
 pub mod Relaid
 pub mod Found
 pub mod Made
 pub mod Loaded
+pub mod Reported
 pub mod Clean
 pub mod Kept
 pub mod Fresh

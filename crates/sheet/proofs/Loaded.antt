@@ -1,35 +1,23 @@
--- A load by its two ways out, and a report.
-use mathlib.Core.Path.{_≡_, refl, sym, ap, _∙_}
-use mathlib.Core.Bool.{Bool, true, false, cond}
-use mathlib.Core.List.{List, [], _++_, flatten}
+-- A load by its two ways out.
+use mathlib.Core.Path.{_≡_, refl, ap, _∙_}
+use mathlib.Core.List.{List, [], flatten}
 use Prim.Native.Nat.{ℕ, _≤_}
 use native.Mathlib.Omega.{arith}
-use borrow.Author.Tests.{eqb-true}
-use lib.Dec.{eqb}
 use lib.Ieee.{Float}
-use lib.ListN.{length, take}
+use lib.ListN.{length}
 use lib.Seq.{take-all}
 use Rattle.base.specs.declared.Refusal.{Refusal}
 use Rattle.base.specs.Lists.{total, cut, over}
-use Rattle.base.specs.Refusals.{none, guarded}
+use Rattle.base.specs.Refusals.{none}
 use Rattle.base.proofs.Cuts.{length-cut, flatten-cut}
 use Rattle.base.proofs.Order.{answers-refused, answers-numbers, passed-answer, refused-answer}
-use Rattle.groups.specs.declared.Row.{Row}
-use Rattle.groups.specs.declared.GroupStats.{GroupStats}
-use Rattle.door.specs.Checks.{oneWayRefusal}
-use Rattle.groups.specs.Rows.{rowsOf, emptyRows, groupStats, refusedStats, validateAnovaGroups}
-use Rattle.groups.specs.Soundness.{soundRefusal}
-use Rattle.groups.proofs.Counted.{sound}
-use Rattle.door.proofs.Doors.{passed}
-use Rattle.oneway.specs.declared.AnovaKind.{AnovaKind}
-use Rattle.results.specs.declared.OneWayAnovaResult.{OneWayAnovaResult}
-use Rattle.results.specs.Results.{refusedResult}
-use Rattle.oneway.specs.Anova.{anova, rowsReport}
-use Rattle.groups.proofs.Told.{which, passes}
-use Rattle.sheet.specs.declared.Sheet.{Sheet}
-use Rattle.sheet.specs.declared.Edit.{Edit}
-use Rattle.sheet.specs.Sheets.{zeroPlaces, sheetOf, sizesOf, groupsOf}
-use Rattle.sheet.specs.Calls.{accepted, refusedWith, loadOf, noUse, usedIn, reportOf}
+use Rattle.oneway_rows.specs.declared.GroupStats.{GroupStats}
+use Rattle.oneway_checks.specs.Checks.{oneWayRefusal}
+use Rattle.oneway_rows.specs.Rows.{rowsOf, emptyRows, refusedStats, validateAnovaGroups}
+use Rattle.oneway_checks.proofs.Doors.{passed}
+use Rattle.oneway_rows.proofs.Told.{which, passes}
+use Rattle.sheet.specs.Sheets.{zeroPlaces, sheetOf}
+use Rattle.sheet.specs.Calls.{refusedWith, loadOf}
 
 -- t is what the check of the groups answered
 module _ (xs : List Float) (ns : List ℕ) (t : GroupStats) (e : t ≡ validateAnovaGroups xs ns) where
@@ -51,23 +39,3 @@ module _ (xs : List Float) (ns : List ℕ) (t : GroupStats) (e : t ≡ validateA
         let r : t .rows ≡ rowsOf (cut ns xs) = ap (λ (u : GroupStats). u .rows) (e ∙ passed-answer (oneWayRefusal xs ns) refusedStats _ q) in
         let f : flatten (cut ns xs) ≡ xs = flatten-cut ns xs ∙ take-all (total ns) xs (omega (arith, passed xs ns q .sizes .adds)) in
         answers-numbers (oneWayRefusal xs ns) (refusedWith (sheetOf [])) _ refl q (rw (p, m, r, f, length-cut ns xs))
-
-module _ (s : Sheet) (l : length (s .places) ≡ 512) where
-  used-fits : (b : Bool) → eqb (soundRefusal (s .groups) (s .rows) .number) 0 ≡ b → cond b (total (sizesOf s)) 0 ≤ 512
-  used-fits true e = sound (s .groups) (s .rows) (eqb-true (soundRefusal (s .groups) (s .rows) .number) 0 e) .fits
-  used-fits false e = omega arith
-
-  module _ {u : ℕ} (w : u ≡ usedIn (s .groups) (s .rows)) where
-    pub report-fits : u ≤ length (s .places)
-    unfolding usedIn guarded
-    report-fits = rw (w, l) (used-fits (eqb (soundRefusal (s .groups) (s .rows) .number) 0) refl)
-
-    pub report-made : (kind : AnovaKind) {x : OneWayAnovaResult} → x ≡ rowsReport kind (s .groups) (s .rows) (take u (s .places)) → x ≡ reportOf kind s
-    unfolding usedIn rowsReport reportOf guarded groupsOf
-    report-made kind q = q ∙ rw (w, flatten-cut) (go (eqb (soundRefusal (s .groups) (s .rows) .number) 0))
-      where
-        go : (b : Bool)
-            → cond b (anova kind (take (s .groups) (s .rows)) (take (cond b (total (sizesOf s)) 0) (s .places))) (refusedResult (soundRefusal (s .groups) (s .rows)))
-            ≡ cond b (anova kind (take (s .groups) (s .rows)) (take (total (sizesOf s)) (s .places))) (refusedResult (soundRefusal (s .groups) (s .rows)))
-        go true = refl
-        go false = refl

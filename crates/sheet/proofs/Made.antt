@@ -1,8 +1,7 @@
 -- The three edits that are not refused: what the code has made is the edited sheet. at, end, used and row are what the code worked out.
-use mathlib.Core.Path.{_≡_, refl, sym, ap, _∙_}
+use mathlib.Core.Path.{_≡_, refl, _∙_}
 use mathlib.Core.List.{List, [], _∷_, _++_}
-use Prim.Native.Nat.{ℕ, suc, _+_, _-_, _≤_, _<_}
-use native.Mathlib.Nat.{add-sub-cancel-left}
+use Prim.Native.Nat.{ℕ, suc, _+_, _-_, _<_}
 use native.Mathlib.Omega.{arith}
 use lib.Ieee.{Float}
 use lib.ListN.{length, getD, take, drop, set, length-append, length-set, length-drop}
@@ -10,13 +9,14 @@ use lib.Seq.{length-take-le}
 use Rattle.base.specs.declared.Refusal.{Refusal}
 use Rattle.base.specs.Refusals.{none}
 use Rattle.base.proofs.Order.{answers-numbers}
-use Rattle.groups.specs.declared.Row.{Row}
-use Rattle.groups.specs.Rows.{rowAnswer}
+use Rattle.float.specs.Words.{plusZero}
+use Rattle.oneway_rows.specs.declared.Row.{Row}
+use Rattle.oneway_rows.specs.Rows.{rowAnswer}
 use Rattle.sheet.specs.declared.Sheet.{Sheet}
 use Rattle.sheet.specs.declared.Edit.{Edit}
-use Rattle.sheet.specs.Moved.{inserted, deleted}
+use Rattle.base.specs.Inner.{inserted, deleted}
 use Rattle.sheet.specs.Sheets.{sizesOf, groupsOf, edited}
-use Rattle.sheet.specs.Calls.{Call, Replace, Append, Remove, refusalOf, target, fresh, accepted, refusedWith, callOf}
+use Rattle.sheet.specs.Calls.{Call, Replace, Append, Remove, refusalOf, target, fresh, refusedWith, callOf}
 use Rattle.sheet.proofs.Judged.{opened, asked, replace-passed, append-passed, remove-passed}
 use Rattle.sheet.proofs.Relaid.{relaid, replaced, appended, removed}
 use Rattle.sheet.proofs.Found.{start, Found, found, own-size, group-is, group-length, made}
@@ -80,7 +80,7 @@ module _ (s : Sheet) (r : length (s .rows) ≡ 16) (g : ℕ) where
         = rw (group-is s r g 0 f) (appended (s .places) (start s g) (start s (g + 1)) (start s (s .groups)) (omega (arith, f .next)) (f .within) (omega arith) x) in
         done (Append g x) z refl m (made s r g 0 f l (old ++ (x ∷ [])) (omega arith) (omega (arith, f .within)) (i ∙ rw (b, u) e) a (omega (arith, f .next)) q)
 
-    pub remove-made : (p : ℕ) → refusalOf (Remove g p) (s .groups) (s .rows) .number ≡ 0 → {used : ℕ} → used ≡ start s (s .groups) → {ps : List Float} → ps ≡ deleted (at + p) used (s .places)
+    pub remove-made : (p : ℕ) → refusalOf (Remove g p) (s .groups) (s .rows) .number ≡ 0 → {used : ℕ} → used ≡ start s (s .groups) → {ps : List Float} → ps ≡ deleted (at + p) used plusZero (s .places)
         → {row : Row} → row ≡ rowAnswer (take (end - 1 - at) (drop at ps)) → {n : Refusal} → n ≡ none
         → says n ps (set (s .rows) g row) (s .groups) ≡ callOf (Remove g p) s
     unfolding target fresh
@@ -94,6 +94,6 @@ module _ (s : Sheet) (r : length (s .rows) ≡ 16) (g : ℕ) where
         let y = group-length s r g p f l in
         let k : length (take p old ++ drop (suc p) old) ≡ start s (g + 1) - start s g - 1
         = length-append (take p old) (drop (suc p) old) ∙ rw (length-take-le p old (omega arith), length-drop, y) (omega arith) in
-        let e : deleted (start s g + p) (start s (s .groups)) (s .places) ≡ relaid (s .places) (start s g) (start s (g + 1)) (start s (s .groups)) (take p old ++ drop (suc p) old)
+        let e : deleted (start s g + p) (start s (s .groups)) plusZero (s .places) ≡ relaid (s .places) (start s g) (start s (g + 1)) (start s (s .groups)) (take p old ++ drop (suc p) old)
         = rw (group-is s r g p f) (removed (s .places) (start s g) (start s (g + 1)) (start s (s .groups)) (omega (arith, f .next)) (f .within) (omega arith) p h) in
         done (Remove g p) z refl m (made s r g p f l (take p old ++ drop (suc p) old) (omega (arith, t .1)) (omega (arith, f .within)) (i ∙ rw (a, u) e) a (omega (arith, t .1)) q)

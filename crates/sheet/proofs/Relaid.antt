@@ -1,15 +1,14 @@
 -- What the stores of an edit leave is all groups laid anew over places that were cleared. A group lies from `at` to `end`, and all readings lie before `used`.
-use mathlib.Core.Path.{_≡_, refl, sym, ap, _∙_}
+use mathlib.Core.Path.{_≡_, sym, ap, _∙_}
 use mathlib.Core.List.{List, [], _∷_, _++_, append-assoc}
 use Prim.Native.Nat.{ℕ, suc, _+_, _-_, _≤_, _<_}
-use native.Mathlib.Numerals.{add-one}
 use native.Mathlib.Omega.{arith}
 use lib.Ieee.{Float}
 use lib.ListN.{length, take, drop, set, replicate, take-append-drop, length-append, length-drop, length-set, length-replicate, replicate-append-replicate}
-use lib.Seq.{take-add, drop-drop, take-take, take-set-le, drop-set-add, take-set-lt, drop-set-lt, take-at, drop-at, drop-append-add, length-take-le, take-nil}
+use lib.Seq.{take-add, drop-drop, take-take, take-set-le, drop-set-add, take-set-lt, drop-set-lt, take-at, drop-at, drop-append-add, length-take-le}
 use Rattle.base.specs.Lists.{over}
 use Rattle.float.specs.Words.{plusZero}
-use Rattle.sheet.specs.Moved.{inserted, deleted}
+use Rattle.base.specs.Inner.{inserted, deleted}
 
 -- the places with the readings ys for the group
 abbrev pub relaid : List Float → ℕ → ℕ → ℕ → List Float → List Float
@@ -90,7 +89,7 @@ module _ (ps : List Float) (at end used : ℕ) (l : at ≤ end) (m : end ≤ use
       let n : length (take at ps ++ ((own ++ (x ∷ [])) ++ B)) ≡ used + 1 = laid-length (own ++ (x ∷ [])) ∙ rw y (omega arith) in
       rw (c, up-to ps at end l) (simp append-assoc) ∙ sym (clear-more (take at ps ++ ((own ++ (x ∷ [])) ++ B)) ps used n)
 
-  pub removed : (k : ℕ) → k < end - at → deleted (at + k) used ps ≡ relaid ps at end used (take k own ++ drop (suc k) own)
+  pub removed : (k : ℕ) → k < end - at → deleted (at + k) used plusZero ps ≡ relaid ps at end used (take k own ++ drop (suc k) own)
   unfolding deleted
   removed k h =
       let j : ℕ = at + k + 1 in

@@ -1,23 +1,23 @@
 -- The sheet's calls: what each one refuses, and the sheet after it.
 use Prim.Native.Nat.{ℕ, suc, _+_}
-use mathlib.Core.Bool.{cond}
 use mathlib.Core.List.{List, [], _∷_, _++_, map, flatten, foldl}
-use lib.Dec.{leb, eqb}
+use lib.Dec.{leb}
 use lib.Ieee.{Float, isNan}
 use lib.ListN.{length, getD, take, drop, set}
 use Rattle.base.specs.declared.Refusal.{Refusal}
-use Rattle.base.specs.Limits.{mostReadings}
+use Rattle.base.specs.Histories.{afterCall}
+use Rattle.base.specs.Limits.{mostReadings, fewestReadings}
 use Rattle.base.specs.Lists.{total, cut}
 use Rattle.base.specs.Refusals.{refuse, none, when, _orElse_, guarded}
-use Rattle.groups.specs.declared.Row.{Row}
-use Rattle.door.specs.Checks.{oneWayRefusal}
-use Rattle.groups.specs.Soundness.{sizesIn, soundRefusal}
+use Rattle.oneway_rows.specs.declared.Row.{Row}
+use Rattle.oneway_checks.specs.Checks.{oneWayRefusal}
+use Rattle.oneway_rows.specs.Soundness.{sizesIn, soundRefusal}
 use Rattle.oneway.specs.declared.AnovaKind.{AnovaKind}
 use Rattle.results.specs.declared.OneWayAnovaResult.{OneWayAnovaResult}
 use Rattle.oneway.specs.Anova.{rowsReport}
 use Rattle.sheet.specs.declared.Sheet.{Sheet}
 use Rattle.sheet.specs.declared.Edit.{Edit}
-use Rattle.sheet.specs.Sheets.{sheetOf, sizesOf, groupsOf, edited}
+use Rattle.sheet.specs.Sheets.{sheetOf, groupsOf, edited}
 
 -- the edits: group, place and new reading; groups and places count from 0
 pub data Call : Type 0 where
@@ -35,11 +35,11 @@ newNan g x = when (isNan x) (refuse 4 (g + 1) 0)
 
 -- no place is free
 abbrev pub full : List ℕ → Refusal
-full ns = when (leb mostReadings (total ns)) (refuse 11 2 513)
+full ns = when (leb mostReadings (total ns)) (refuse 11 2 (mostReadings + 1))
 
--- the group has two readings only, which it keeps
+-- the group has no more readings than it must keep
 abbrev pub lastTwo : ℕ → List ℕ → Refusal
-lastTwo g ns = when (leb (getD ns g 0) 2) (refuse 2 2 1)
+lastTwo g ns = when (leb (getD ns g 0) fewestReadings) (refuse 2 fewestReadings 1)
 
 -- what the paper says of a call on sound groups of the sizes ns
 unfoldable pub judge : Call → List ℕ → Refusal
@@ -80,19 +80,20 @@ callOf c s = guarded (refusalOf c (s .groups) (s .rows)) (refusedWith s) (accept
 unfoldable pub loadOf : List Float → List ℕ → Edit
 loadOf xs ns = guarded (oneWayRefusal xs ns) (refusedWith (sheetOf [])) (accepted (sheetOf (cut ns xs)))
 
-abbrev pub noUse : Refusal → ℕ
-noUse r = 0
-
-unfoldable pub usedIn : ℕ → List Row → ℕ
-usedIn k rows = guarded (soundRefusal k rows) noUse (total (sizesIn k rows))
-
 -- the formulas over the sheet's rows and readings
 unfoldable pub reportOf : AnovaKind → Sheet → OneWayAnovaResult
 reportOf kind s = rowsReport kind (s .groups) (s .rows) (flatten (groupsOf s))
 
--- the groups after a call: one that is judged acceptable gives its group the new readings
+-- what a call on groups is told, and the groups that it leaves where it is accepted: its group has the new readings
+abbrev pub ruled : Call → List (List Float) → Refusal
+ruled c gs = judge c (map length gs)
+
+abbrev pub changed : Call → List (List Float) → List (List Float)
+changed c gs = set gs (target c) (renewed c gs)
+
+-- the groups after a call
 unfoldable pub after : List (List Float) → Call → List (List Float)
-after gs c = cond (eqb (judge c (map length gs) .number) 0) (set gs (target c) (renewed c gs)) gs
+after gs c = afterCall ruled changed gs c
 
 unfoldable pub called : Sheet → Call → Sheet
 called s c = callOf c s .sheet

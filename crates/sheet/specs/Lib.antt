@@ -1,3 +1,3 @@
-pub mod Moved
 pub mod Sheets
 pub mod Calls
+pub mod Inner

@@ -6,8 +6,8 @@ use lib.ListN.{length, set, replicate}
 use Rattle.base.specs.Limits.{mostReadings}
 use Rattle.base.specs.Lists.{total, cut, over}
 use Rattle.float.specs.Words.{plusZero}
-use Rattle.groups.specs.Rows.{rowOf, rowsOf}
-use Rattle.groups.specs.Soundness.{sizesIn}
+use Rattle.oneway_rows.specs.Rows.{rowOf, rowsOf}
+use Rattle.oneway_rows.specs.Soundness.{sizesIn}
 use Rattle.sheet.specs.declared.Sheet.{Sheet}
 
 unfoldable pub zeroPlaces : List Float

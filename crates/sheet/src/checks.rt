@@ -1,13 +1,17 @@
 // The checks before an edit, from the rows alone, and where a group's readings begin.
 use crate::Sheet;
 use base::Refusal;
-use groups::Row;
+use oneway_rows::Row;
 ghost use mathlib.Core.Path.{_≡_};
 ghost use Rattle.base.specs.Lists.{total};
 ghost use Rattle.base.specs.Refusals.{_orElse_};
-ghost use Rattle.groups.specs.Soundness.{sizesIn, soundRefusal};
-ghost use Rattle.oneway.specs.Summary.{Small};
-ghost use Rattle.sheet.specs.Calls.{Call, noPlace, refusalOf, usedIn};
+ghost use Rattle.oneway_rows.specs.Soundness.{sizesIn, soundRefusal};
+ghost use Rattle.oneway.specs.Inner.{Small};
+ghost use Rattle.sheet.specs.Calls.{Call, noPlace, refusalOf};
+ghost use Rattle.sheet.specs.Inner.{usedIn};
+
+// One reading more than there are places for.
+const OVER: usize = Sheet::PLACES + 1;
 
 // How many readings lie ahead of group n, which is where its own begin: as many as the n groups before it have.
 pub fn ahead(rows: [Row; Sheet::ROWS], n: usize) -> usize
@@ -27,7 +31,7 @@ pub fn ahead(rows: [Row; Sheet::ROWS], n: usize) -> usize
 pub fn used(rows: [Row; Sheet::ROWS], k: usize) -> usize
     ensures { λ r. ⌜ r ≡ usedIn k rows ⌝ }
 {
-    let refusal = groups::sound::rows_refusal(rows, k);
+    let refusal = oneway_rows::sound::rows_refusal(rows, k);
     if refusal.number != 0 {
         return 0;
     }
@@ -38,7 +42,7 @@ pub fn used(rows: [Row; Sheet::ROWS], k: usize) -> usize
 fn place_refusal(rows: [Row; Sheet::ROWS], k: usize, group: usize, place: usize) -> Refusal
     ensures { λ r. ⌜ r ≡ (soundRefusal k rows orElse noPlace group place (sizesIn k rows)) ⌝ }
 {
-    let refusal = groups::sound::rows_refusal(rows, k);
+    let refusal = oneway_rows::sound::rows_refusal(rows, k);
     if refusal.number != 0 {
         return refusal;
     }
@@ -78,7 +82,7 @@ pub fn append_refusal(rows: [Row; Sheet::ROWS], k: usize, group: usize, x: f64) 
         return refusal;
     }
     if Sheet::PLACES <= ahead(rows, k) {
-        return Refusal::new(11, 2, 513);
+        return Refusal::new(11, 2, OVER as u64);
     }
     Refusal::none()
 }
@@ -90,8 +94,8 @@ pub fn remove_refusal(rows: [Row; Sheet::ROWS], k: usize, group: usize, place: u
     if refusal.number != 0 {
         return refusal;
     }
-    if rows[group].size <= 2 {
-        return Refusal::new(2, 2, 1);
+    if rows[group].size as usize <= base::FEWEST_READINGS {
+        return Refusal::new(2, base::FEWEST_READINGS as u64, 1);
     }
     Refusal::none()
 }

@@ -3,11 +3,11 @@ mod checks;
 mod places;
 
 use base::Refusal;
-use groups::Row;
 use oneway::AnovaKind;
+use oneway_rows::Row;
 use results::OneWayAnovaResult;
 ghost use mathlib.Core.Path.{_≡_};
-ghost use Rattle.groups.specs.Rows.{emptyRow};
+ghost use Rattle.oneway_rows.specs.Rows.{emptyRow};
 ghost use Rattle.sheet.specs.Calls.{Call, callOf, loadOf, reportOf};
 
 // The groups' readings one after another, a row for each group, and zeros behind both. The only count beside the rows' sizes is that of the groups.
@@ -24,9 +24,9 @@ pub struct Edit {
 }
 
 impl Sheet {
-    pub const PLACES: usize = 512;
+    pub const PLACES: usize = base::MOST_READINGS;
 
-    pub const ROWS: usize = 16;
+    pub const ROWS: usize = base::MOST_GROUPS;
 
     // The row of no group, which stands behind the groups' rows.
     pub fn empty_row() -> Row
@@ -39,7 +39,7 @@ impl Sheet {
     pub fn load(readings: &[f64], sizes: &[u32]) -> Edit
         ensures { λ r. ⌜ r ≡ loadOf (now (readings .entry)) (now (sizes .entry)) ⌝ }
     {
-        let stats = groups::validate_anova_groups(readings, sizes);
+        let stats = oneway_rows::validate_anova_groups(readings, sizes);
         let refusal = stats.refusal;
         let rows = stats.rows;
         let mut places = [0.0; Sheet::PLACES];

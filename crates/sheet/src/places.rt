@@ -3,7 +3,8 @@ ghost use mathlib.Core.Path.{_≡_};
 ghost use Prim.Native.Nat.{_≤_, _<_};
 ghost use lib.ListN.{length};
 ghost use Rattle.base.specs.Lists.{over};
-ghost use Rattle.sheet.specs.Moved.{inserted, deleted};
+ghost use Rattle.base.specs.Inner.{inserted, deleted};
+ghost use Rattle.float.specs.Words.{plusZero};
 
 // The readings, laid over the first places.
 pub fn lay(places: &mut [f64], readings: &[f64])
@@ -35,7 +36,7 @@ pub fn insert(places: &mut [f64], at: usize, end: usize, x: f64)
 // The reading at `at` is gone: each one behind it goes one place down, and the place that the last one before `end` leaves is cleared.
 pub fn delete(places: &mut [f64], at: usize, end: usize)
     requires { ⌜ (at < end) × (end ≤ length (now places)) ⌝ }
-    ensures { λ _. ⌜ now (places .exit) ≡ deleted at end (now (places .entry)) ⌝ }
+    ensures { λ _. ⌜ now (places .exit) ≡ deleted at end plusZero (now (places .entry)) ⌝ }
 {
     let mut i = at;
     while i + 1 < end {

@@ -5,7 +5,7 @@ use lib.Dec.{ltb, eqb}
 use lib.Ieee.{Float}
 use lib.ListN.{length}
 use Rattle.base.specs.declared.Refusal.{Refusal}
-use Rattle.base.specs.Limits.{mostReadings}
+use Rattle.base.specs.Limits.{mostReadings, fewestReadings}
 use Rattle.base.specs.Refusals.{refuse, none, when, _orElse_, guarded}
 use Rattle.float.specs.Words.{plusZero}
 use Rattle.stats.specs.Sums.{meanOf, varianceOf}
@@ -21,7 +21,7 @@ meanRefusal n =
 unfoldable pub varianceRefusal : ℕ → Refusal
 varianceRefusal n =
     when (ltb mostReadings n) (refuse 11 2 n)
-    orElse when (ltb n 2) (refuse 2 2 n)
+    orElse when (ltb n fewestReadings) (refuse 2 fewestReadings n)
 
 abbrev pub figure : Float → Figure
 figure x = record { refusal = none; value = x }

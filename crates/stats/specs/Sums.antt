@@ -1,5 +1,5 @@
 -- Sums of readings in the order of the source, one rounding per operation.
-use Prim.Native.Nat.{ℕ, _-_}
+use Prim.Native.Nat.{_-_}
 use mathlib.Core.List.{List, [], _∷_, foldl}
 use mathlib.Core.Bool.{Bool, true, false, cond}
 use lib.Ieee.{Float, isNan}
@@ -35,7 +35,11 @@ meanOf xs = sum xs ⊘ count (length xs)
 abbrev pub varianceOf : List Float → Float
 varianceOf xs = sqDev (meanOf xs) xs ⊘ count (length xs - 1)
 
+-- does the test hold of one of the readings?
+unfoldable pub some : (Float → Bool) → List Float → Bool
+some test [] = false
+some test (x ∷ xs) = cond (test x) true (some test xs)
+
 -- is one of the readings a NaN?
-unfoldable pub hasNan : List Float → Bool
-hasNan [] = false
-hasNan (x ∷ xs) = cond (isNan x) true (hasNan xs)
+abbrev pub hasNan : List Float → Bool
+hasNan xs = some isNan xs

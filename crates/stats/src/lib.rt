@@ -74,8 +74,8 @@ fn variance_refusal(n: usize) -> Refusal
     if base::MOST_READINGS < n {
         return Refusal::new(11, 2, n as u64);
     }
-    if n < 2 {
-        return Refusal::new(2, 2, n as u64);
+    if n < base::FEWEST_READINGS {
+        return Refusal::new(2, base::FEWEST_READINGS as u64, n as u64);
     }
     Refusal::none()
 }

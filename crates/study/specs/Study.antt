@@ -7,9 +7,9 @@ use lib.ListN.{length, getD}
 use Rattle.base.specs.declared.Refusal.{Refusal}
 use Rattle.base.specs.Refusals.{refuse, none, unless, _orElse_, guarded}
 use Rattle.float.specs.Words.{_⊕_, _⊖_, _⊘_, count, plusZero}
-use Rattle.design.specs.Cells.{cellCounts}
-use Rattle.design.specs.Checks.{levels, twoWayRefusal}
-use Rattle.balanced.specs.Squares.{otherCount}
+use Rattle.twoway_checks.specs.Cells.{cellCounts}
+use Rattle.twoway_checks.specs.Checks.{levels, twoWayRefusal}
+use Rattle.twoway_balanced.specs.Squares.{otherCount}
 use Rattle.lent.specs.Wiping.{wiped}
 use Rattle.twoway.specs.declared.TwoWayAnovaResult.{TwoWayAnovaResult}
 use Rattle.twoway.specs.Anova.{twoWayOf}

@@ -42,7 +42,7 @@ fn balance_refusal(counts: &[usize]) -> Refusal
     ensures { λ r. ⌜ r ≡ balanceRefusal (now (counts .entry)) ⌝ }
 {
     let first = counts[0];
-    let other = balanced::other_count(counts);
+    let other = twoway_balanced::other_count(counts);
     if other == first {
         return Refusal::none();
     }
@@ -85,7 +85,7 @@ pub fn gauge_study(
 ) -> GaugeStudy
     ensures { λ r. ⌜ (now (scratch .exit), r) ≡ gaugeStudy (now (values .entry)) (now («factor_a» .entry)) (now («factor_b» .entry)) (now (scratch .entry)) ⌝ }
 {
-    let d = design::check_two_way_data(values, factor_a, factor_b, scratch.len());
+    let d = twoway_checks::check_two_way_data(values, factor_a, factor_b, scratch.len());
     if d.refusal.number != 0 {
         return refused(d.refusal);
     }

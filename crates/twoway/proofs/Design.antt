@@ -10,24 +10,24 @@ use lib.Seq.{take-take, drop-drop, length-take-le}
 use Rattle.base.specs.declared.Refusal.{Refusal}
 use Rattle.base.specs.Lists.{total, cut}
 use Rattle.base.proofs.Order.{passed-answer, refused-answer}
-use Rattle.design.specs.declared.TwoWayData.{TwoWayData}
-use Rattle.design.specs.Cells.{cells}
-use Rattle.design.specs.Checks.{twoWayRefusal}
-use Rattle.cells.specs.Organized.{cellOrder, organizeTwoWayData}
-use Rattle.cells.proofs.Designs.{Held, cut-cells, which, left-alone}
-use Rattle.margins.specs.declared.CellTable.{CellTable}
-use Rattle.balanced.specs.declared.Effects.{Effects}
-use Rattle.balanced.specs.Squares.{otherCount, balancedSs}
-use Rattle.type3.specs.declared.Effects.{Effects as Type3}
+use Rattle.twoway_checks.specs.declared.TwoWayData.{TwoWayData}
+use Rattle.twoway_checks.specs.Cells.{cells}
+use Rattle.twoway_checks.specs.Checks.{twoWayRefusal}
+use Rattle.twoway_cells.specs.Organized.{cellOrder, organizeTwoWayData}
+use Rattle.twoway_cells.proofs.Designs.{Held, cut-cells, which, left-alone}
+use Rattle.twoway_means.specs.declared.CellTable.{CellTable}
+use Rattle.results.specs.declared.Effects.{Effects}
+use Rattle.twoway_balanced.specs.Squares.{otherCount, balancedSs}
 use Rattle.base.proofs.Loops.{listed-length}
 use Rattle.float.specs.Words.{plusZero}
-use Rattle.margins.specs.Table.{cellTable, tableFits, tableOf, cellMean, cellMeans, noCells}
-use Rattle.type3.specs.Shape.{fits, factorFits}
+use Rattle.twoway_means.specs.Table.{cellTable, tableFits, tableOf, cellMean, cellMeans, noCells}
+use Rattle.twoway_type3.specs.Shape.{fits, factorFits}
 use Rattle.lent.specs.Wiping.{wiped, zeros}
-use Rattle.type3.specs.Answer.{type3Ss, allEffects}
+use Rattle.twoway_type3.specs.Answer.{type3Ss, allEffects}
 use Rattle.twoway.specs.declared.TwoWayAnovaResult.{TwoWayAnovaResult}
-use Rattle.twoway.specs.Results.{Small, answerOf, refusedResult}
-use Rattle.twoway.specs.Anova.{Ready, squaresOf, squaresLeft, untouched, twoWayAnova}
+use Rattle.twoway.specs.Results.{answerOf, refusedResult}
+use Rattle.twoway.specs.Inner.{Small, Ready, squaresLeft}
+use Rattle.twoway.specs.Anova.{squaresOf, untouched, twoWayAnova}
 use Rattle.twoway.proofs.Counts.{some}
 
 -- Type III takes a design that is ready
@@ -43,13 +43,13 @@ module _ (xs : List Float) (us vs : List ℕ) (a b : ℕ) (ms : List Float) (ns 
   unfolding squaresOf
   balanced-way e q w p = rw (w, p, eq-eqb (otherCount ns) (getD ns 0 0) (sym told ∙ q))
 
-  pub type3-way : (e : Type3) → (o ≡ getD ns 0 0 → ⊥) → Ready xs us vs ns a b scratch → _≡_ {A = List Float × Type3} (left, e) (type3Ss xs us vs a b scratch)
-      → _≡_ {A = List Float × Effects} (left, record { «ss_a» = e .«ss_a»; «ss_b» = e .«ss_b»; «ss_ab» = e .«ss_ab» }) (squaresLeft xs us vs a b ms ns scratch)
+  pub type3-way : (e : Effects) → (o ≡ getD ns 0 0 → ⊥) → Ready xs us vs ns a b scratch → _≡_ {A = List Float × Effects} (left, e) (type3Ss xs us vs a b scratch)
+      → _≡_ {A = List Float × Effects} (left, e) (squaresLeft xs us vs a b ms ns scratch)
   unfolding squaresOf
   type3-way e q r p =
       let t = p ∙ type3-fits xs us vs ns a b scratch r in
-      let w : left ≡ wiped scratch = ap (λ (x : List Float × Type3). x .0) t in
-      let f : e ≡ allEffects xs us vs a b = ap (λ (x : List Float × Type3). x .1) t in
+      let w : left ≡ wiped scratch = ap (λ (x : List Float × Effects). x .0) t in
+      let f : e ≡ allEffects xs us vs a b = ap (λ (x : List Float × Effects). x .1) t in
       rw (w, f, ne-eqb (otherCount ns) (getD ns 0 0) (λ z. q (told ∙ z)))
 
 -- a refused call

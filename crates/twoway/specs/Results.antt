@@ -1,5 +1,5 @@
 -- The answer of a two-way analysis: its table, and what it is where it is refused.
-use Prim.Native.Nat.{ℕ, _-_, _*_, _≤_}
+use Prim.Native.Nat.{ℕ, _-_, _*_}
 use mathlib.Core.List.{List}
 use lib.Ieee.{Float}
 use lib.ListN.{length}
@@ -7,10 +7,10 @@ use Rattle.base.specs.declared.Refusal.{Refusal}
 use Rattle.base.specs.Refusals.{none}
 use Rattle.float.specs.Words.{_⊘_, count, plusZero}
 use Rattle.stats.specs.Sums.{meanOf, sqDev}
-use Rattle.tables.specs.Rows.{effectRow, plainRow, noRow}
-use Rattle.margins.specs.declared.CellTable.{CellTable}
-use Rattle.margins.specs.Table.{noLevels, noCells}
-use Rattle.balanced.specs.declared.Effects.{Effects}
+use Rattle.results.specs.Rows.{effectRow, plainRow, noRow}
+use Rattle.twoway_means.specs.declared.CellTable.{CellTable}
+use Rattle.twoway_means.specs.Table.{noLevels, noCells}
+use Rattle.results.specs.declared.Effects.{Effects}
 use Rattle.twoway.specs.declared.TwoWayAnovaResult.{TwoWayAnovaResult}
 
 -- the residual's mean square
@@ -52,12 +52,3 @@ refusedResult r = record {
   «marginal_means_a» = noLevels;
   «marginal_means_b» = noLevels;
 }
-
--- what the table asks, so that counts fit
-pub record Small (xs : List Float) (a b : ℕ) : Type 0 where
-  pub least-a : 1 ≤ a
-  pub least-b : 1 ≤ b
-  pub most-a : a ≤ 6
-  pub most-b : b ≤ 6
-  pub enough : a * b ≤ length xs
-  pub most : length xs ≤ 512

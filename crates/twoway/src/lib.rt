@@ -3,7 +3,7 @@ mod squares;
 mod table;
 
 use base::Refusal;
-use tables::AnovaTableRow;
+use results::AnovaTableRow;
 ghost use mathlib.Core.Path.{_≡_};
 ghost use Rattle.twoway.specs.Results.{refusedResult};
 ghost use Rattle.twoway.specs.Anova.{twoWayAnova};
@@ -20,9 +20,9 @@ pub struct TwoWayAnovaResult {
     pub levels_b: usize,
     pub n: usize,
     pub grand_mean: f64,
-    pub cell_means: [f64; 36],
-    pub marginal_means_a: [f64; 6],
-    pub marginal_means_b: [f64; 6],
+    pub cell_means: [f64; base::MOST_CELLS],
+    pub marginal_means_a: [f64; base::MOST_LEVELS],
+    pub marginal_means_b: [f64; base::MOST_LEVELS],
 }
 
 // The answer that carries a refusal alone.
@@ -31,18 +31,18 @@ fn refused(refusal: Refusal) -> TwoWayAnovaResult
 {
     TwoWayAnovaResult {
         refusal: refusal,
-        factor_a: tables::no_row(),
-        factor_b: tables::no_row(),
-        interaction: tables::no_row(),
-        residual: tables::no_row(),
-        total: tables::no_row(),
+        factor_a: results::no_row(),
+        factor_b: results::no_row(),
+        interaction: results::no_row(),
+        residual: results::no_row(),
+        total: results::no_row(),
         levels_a: 0,
         levels_b: 0,
         n: 0,
         grand_mean: 0.0,
-        cell_means: [0.0; 36],
-        marginal_means_a: [0.0; 6],
-        marginal_means_b: [0.0; 6],
+        cell_means: [0.0; base::MOST_CELLS],
+        marginal_means_a: [0.0; base::MOST_LEVELS],
+        marginal_means_b: [0.0; base::MOST_LEVELS],
     }
 }
 
@@ -56,7 +56,7 @@ pub fn two_way_anova(
 ) -> TwoWayAnovaResult
     ensures { λ r. ⌜ (now (scratch .exit), r) ≡ twoWayAnova (now (values .entry)) (now («factor_a» .entry)) (now («factor_b» .entry)) (now (scratch .entry)) ⌝ }
 {
-    let d = cells::organize_two_way_data(values, factor_a, factor_b, scratch);
+    let d = twoway_cells::organize_two_way_data(values, factor_a, factor_b, scratch);
     if d.refusal.number != 0 {
         return refused(d.refusal);
     }
@@ -64,7 +64,7 @@ pub fn two_way_anova(
     let b = d.levels_b;
     let n = d.n_total;
     let counts = d.cell_n;
-    let t = margins::cell_table(&scratch[..n], &counts[..a * b], a, b);
+    let t = twoway_means::cell_table(&scratch[..n], &counts[..a * b], a, b);
     let means = t.cell_means;
     let e = squares::squares(
         values,

@@ -1,7 +1,7 @@
 // The effects' sums of squares: by the plain formulas where the design is balanced, else by Type III.
-use balanced::Effects;
+use results::Effects;
 ghost use mathlib.Core.Path.{_≡_};
-ghost use Rattle.twoway.specs.Anova.{Ready, squaresLeft};
+ghost use Rattle.twoway.specs.Inner.{squaresLeft, Ready};
 
 // Of a by b cells with these means and counts. The scratch is left wiped.
 pub fn squares(
@@ -18,14 +18,9 @@ pub fn squares(
     ensures { λ r. ⌜ (now (scratch .exit), r) ≡ squaresLeft (now (values .entry)) (now («factor_a» .entry)) (now («factor_b» .entry)) a b (now (means .entry)) (now (counts .entry)) (now (scratch .entry)) ⌝ }
 {
     let first = counts[0];
-    if balanced::other_count(counts) == first {
+    if twoway_balanced::other_count(counts) == first {
         lent::wipe(scratch);
-        return balanced::balanced_ss(means, first, a, b);
+        return twoway_balanced::balanced_ss(means, first, a, b);
     }
-    let e = type3::type3_ss(values, factor_a, factor_b, a, b, scratch);
-    Effects {
-        ss_a: e.ss_a,
-        ss_b: e.ss_b,
-        ss_ab: e.ss_ab,
-    }
+    twoway_type3::type3_ss(values, factor_a, factor_b, a, b, scratch)
 }

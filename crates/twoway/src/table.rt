@@ -1,10 +1,11 @@
 // The table of a two-way analysis, once its sums of squares are known.
 use crate::TwoWayAnovaResult;
-use balanced::Effects;
 use base::Refusal;
-use margins::CellTable;
+use results::Effects;
+use twoway_means::CellTable;
 ghost use mathlib.Core.Path.{_≡_};
-ghost use Rattle.twoway.specs.Results.{Small, answerOf};
+ghost use Rattle.twoway.specs.Results.{answerOf};
+ghost use Rattle.twoway.specs.Inner.{Small};
 
 pub fn answer(values: &[f64], a: usize, b: usize, t: CellTable, e: Effects) -> TwoWayAnovaResult
     requires { ⌜ Small (now values) a b ⌝ }
@@ -13,18 +14,18 @@ pub fn answer(values: &[f64], a: usize, b: usize, t: CellTable, e: Effects) -> T
     let n = values.len();
     let grand_mean = float::canon(stats::sum(values) / (n as f64));
     let ss_total = stats::sq_dev(values, grand_mean);
-    let residual = tables::plain_row(t.ss_error, (n - a * b) as f64);
+    let residual = results::plain_row(t.ss_error, (n - a * b) as f64);
     let ms_error = residual.ms;
     let cell_means = t.cell_means;
     let means_a = t.marginal_means_a;
     let means_b = t.marginal_means_b;
     TwoWayAnovaResult {
         refusal: Refusal::none(),
-        factor_a: tables::effect_row(e.ss_a, (a - 1) as f64, ms_error),
-        factor_b: tables::effect_row(e.ss_b, (b - 1) as f64, ms_error),
-        interaction: tables::effect_row(e.ss_ab, ((a - 1) * (b - 1)) as f64, ms_error),
+        factor_a: results::effect_row(e.ss_a, (a - 1) as f64, ms_error),
+        factor_b: results::effect_row(e.ss_b, (b - 1) as f64, ms_error),
+        interaction: results::effect_row(e.ss_ab, ((a - 1) * (b - 1)) as f64, ms_error),
         residual: residual,
-        total: tables::plain_row(ss_total, (n - 1) as f64),
+        total: results::plain_row(ss_total, (n - 1) as f64),
         levels_a: a,
         levels_b: b,
         n: n,

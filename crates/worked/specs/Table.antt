@@ -7,9 +7,9 @@ use lib.Ieee.{Float, binary64, ofBits, toBits, add, sub, mul, div, neg, lt, ofIn
 use lib.ListN.{replicate}
 use Rattle.base.specs.Refusals.{firstFault, guarded}
 use Rattle.base.specs.Lists.{total, cut, listed}
-use Rattle.stats.specs.Sums.{sumBy, hasNan}
+use Rattle.stats.specs.Sums.{sumBy, some}
 use Rattle.base.specs.Sizes.{sizesRefusal}
-use Rattle.door.specs.Checks.{groupFault, oneWayRefusal}
+use Rattle.oneway_checks.specs.Checks.{groupFault, oneWayRefusal}
 use Rattle.oneway.specs.declared.AnovaKind.{AnovaKind}
 use Rattle.oneway.specs.declared.AnovaKind.the-variants.{Fisher, Welch}
 use Rattle.results.specs.declared.OneWayAnovaResult.{OneWayAnovaResult}
@@ -18,10 +18,10 @@ use Rattle.oneway.specs.Fisher.{fisherAnova}
 use Rattle.oneway.specs.Welch.{welchAnova}
 use Rattle.oneway.specs.Anova.{anova, oneWayAnova}
 use Rattle.base.specs.Loop.{loop, turns}
-use Rattle.design.specs.Cells.{cell, numbers, cells}
-use Rattle.design.specs.Checks.{largest, shapeRefusal, levelsRefusal, cellsRefusal, twoWayRefusal}
-use Rattle.margins.specs.Table.{tallyLine, noLevels, noCells, margins, cellMeans, ssError}
-use Rattle.balanced.specs.Squares.{unlike, otherCount, meanLine, meanMargins, abRow, ssAb, balancedSs}
+use Rattle.twoway_checks.specs.Cells.{cell, numbers, cells}
+use Rattle.twoway_checks.specs.Checks.{largest, shapeRefusal, levelsRefusal, cellsRefusal, twoWayRefusal}
+use Rattle.twoway_means.specs.Table.{tallyLine, noLevels, noCells, margins, cellMeans, ssError}
+use Rattle.twoway_balanced.specs.Squares.{unlike, otherCount, meanLine, meanMargins, abRow, ssAb, balancedSs}
 use Rattle.twoway.specs.declared.TwoWayAnovaResult.{TwoWayAnovaResult}
 use Rattle.twoway.specs.Results.{answerOf, refusedResult}
 use Rattle.twoway.specs.Anova.{squaresOf, twoWayAnova}
@@ -30,28 +30,28 @@ use Rattle.study.specs.Study.{balanceRefusal, studyRefusal, componentsOf, gauge
 use Rattle.float.specs.Words.{plusZero}
 use Rattle.float.specs.Singles.{absOf, isFinite, leastOf, greatestOf, clampOf, powerFrom, powerOf}
 use Rattle.base.specs.Lists.{part}
-use Rattle.linear.specs.Determinant.{twoByTwo, detOf, matrixDeterminant}
-use Rattle.linear.specs.Rows.{swapRows, lessRow as lessLine, overRow as overLine, better, pivotRow, pivoted, clearRow, clearBelow}
-use Rattle.linear.specs.System.{cleared, column, forward, backSum, backValue, backRow, backward, solveLinearSystem}
-use Rattle.linear.specs.Inverse.{zeroRight, unitRow, unit, clearOther, clearOthers, scaled, reduced, fullColumn, fullColumns, matrixInverse}
+use Rattle.matrix_linear.specs.Determinant.{twoByTwo, detOf, matrixDeterminant}
+use Rattle.matrix_linear.specs.Rows.{swapRows, better, pivotRow, pivoted, clearRow, clearBelow}
+use Rattle.matrix_linear.specs.System.{cleared, column, forward, backSum, backValue, backRow, backward, solveLinearSystem}
+use Rattle.matrix_linear.specs.Inverse.{zeroRight, unitRow, unit, clearOther, clearOthers, scaled, reduced, fullColumn, fullColumns, matrixInverse}
 use Rattle.lent.specs.Wiping.{zeros as lentZeros}
-use Rattle.type3.specs.Coding.{effectCode, codesFrom, productsOf, products, designRow}
-use Rattle.type3.specs.Matrices.{places, table, halfOf, leftHalf}
-use Rattle.type3.specs.Normal.{rowOf, normalAt, normalSystem}
-use Rattle.type3.specs.Wald.{waldRow, waldSum, covInv, waldSs}
-use Rattle.type3.specs.Answer.{beta, inverse, allEffects}
-use Rattle.subjects.specs.Checks.{designRefusal, subjectFault, repeatedRefusal}
-use Rattle.grid.specs.Table.{noSubjects, noConditions, subjectMeans, conditionSum, conditionMeans, ssTotal, ssSubjects, ssConditions}
-use Rattle.flat.specs.Places.{refuses, dot}
-use Rattle.orthonormal.specs.Orthonormal.{lessRow, overRow, projectRow, projectRows, normalizeRow, orthonormalRow, orthonormalRows, orthonormalize}
-use Rattle.product.specs.Product.{productRow, product, blank, csc, matrixMultiplyCsc}
-use Rattle.eigen.specs.Qr.{blankColumn, columnOf, lessColumn, project, projections, putColumn, newColumn, normalize, remains, qrColumn, qrColumns}
-use Rattle.eigen.specs.Values.{zeros, qrHere, round, rounds, diagonal, computeEigenvalues}
-use Rattle.contrasts.specs.Covariance.{covSum, covariance, covRow, covRows, noCovariances, covMatrix}
-use Rattle.contrasts.specs.Contrasts.{contrastRow, contrastRows, contrasts, orthonormalContrasts, throughContrasts, fits, contrastCovariance}
-use Rattle.sphericity.specs.Epsilons.{values, ggRaw, epsilonGg, hfRaw, usable, epsilonHf}
-use Rattle.sphericity.specs.Mauchly.{trace, meanTrace, det, wRaw, mauchlyW, dfW}
-use Rattle.sphericity.specs.Corrections.{csc as cscHere, ggOf, correctionsOf, computeSphericityCorrections}
+use Rattle.twoway_type3.specs.Coding.{effectCode, codesFrom, productsOf, products, designRow}
+use Rattle.twoway_type3.specs.Matrices.{places, table, halfOf, leftHalf}
+use Rattle.twoway_type3.specs.Normal.{rowOf, normalAt, normalSystem}
+use Rattle.twoway_type3.specs.Wald.{waldRow, waldSum, covInv, waldSs}
+use Rattle.twoway_type3.specs.Answer.{beta, inverse, allEffects}
+use Rattle.repeated_checks.specs.Checks.{designRefusal, subjectFault, repeatedRefusal}
+use Rattle.repeated_grid.specs.Table.{noSubjects, noConditions, subjectMeans, conditionSum, conditionMeans, ssTotal, ssSubjects, ssConditions}
+use Rattle.matrix_places.specs.Places.{refuses, dot, lessRow, overRow}
+use Rattle.matrix_orthonormal.specs.Orthonormal.{projectRow, projectRows, normalizeRow, orthonormalRow, orthonormalRows, orthonormalize}
+use Rattle.matrix_product.specs.Product.{productRow, product, blank, csc, matrixMultiplyCsc}
+use Rattle.matrix_eigen.specs.Qr.{blankColumn, columnOf, lessColumn, project, projections, putColumn, newColumn, normalize, remains, qrColumn, qrColumns}
+use Rattle.matrix_eigen.specs.Values.{zeros, qrHere, round, rounds, diagonal, computeEigenvalues}
+use Rattle.repeated_contrasts.specs.Covariance.{covSum, covariance, covRow, covRows, noCovariances, covMatrix}
+use Rattle.repeated_contrasts.specs.Contrasts.{contrastRow, contrastRows, contrasts, orthonormalContrasts, throughContrasts, fits, contrastCovariance}
+use Rattle.repeated_sphericity.specs.Epsilons.{values, ggRaw, epsilonGg, hfRaw, usable, epsilonHf}
+use Rattle.repeated_sphericity.specs.Mauchly.{trace, meanTrace, det, wRaw, mauchlyW, dfW}
+use Rattle.repeated_sphericity.specs.Corrections.{csc as cscHere, ggOf, correctionsOf, computeSphericityCorrections}
 use Rattle.repeated.specs.declared.RmAnovaResult.{RmAnovaResult}
 use Rattle.repeated.specs.Results.{answerOf as repeatedAnswer}
 use Rattle.repeated.specs.Anova.{repeatedMeasuresAnova}
@@ -246,5 +246,5 @@ abbrev given : Line → List ℕ
 given l = l .1
 
 pub worked : map asked lines ≡ map given lines
-unfolding answer refusedResult allEffects beta inverse waldRow waldSum covInv waldSs rowOf normalAt normalSystem places table halfOf leftHalf effectCode codesFrom productsOf products designRow lentZeros zeroRight unitRow unit clearOther clearOthers scaled reduced fullColumn fullColumns matrixInverse cleared column forward backSum backValue backRow backward solveLinearSystem swapRows lessLine overLine better pivotRow pivoted clearRow clearBelow repeatedMeasuresAnova repeatedAnswer repeatedRefusal designRefusal firstFault subjectFault noSubjects noConditions subjectMeans conditionSum conditionMeans ssTotal ssSubjects ssConditions part computeSphericityCorrections correctionsOf cscHere ggOf values ggRaw epsilonGg hfRaw usable epsilonHf trace meanTrace det wRaw mauchlyW dfW matrixDeterminant detOf twoByTwo absOf isFinite leastOf greatestOf clampOf powerFrom powerOf contrastCovariance fits throughContrasts orthonormalContrasts contrasts contrastRows contrastRow covMatrix covRows covRow noCovariances covariance covSum computeEigenvalues diagonal rounds round qrHere zeros qrColumns qrColumn remains normalize newColumn putColumn projections project lessColumn columnOf blankColumn matrixMultiplyCsc csc blank product productRow orthonormalize orthonormalRows orthonormalRow normalizeRow projectRows projectRow overRow lessRow refuses dot lent twoWayAnova squaresOf answerOf twoWayRefusal shapeRefusal levelsRefusal cellsRefusal largest cells cell numbers tallyLine listed noLevels noCells margins cellMeans ssError unlike otherCount meanLine meanMargins abRow ssAb balancedSs balanceRefusal studyRefusal componentsOf gaugeStudy loop turns oneWayAnova anova fisherAnova welchAnova noSizes noMeans oneWayRefusal sizesRefusal groupFault guarded total cut hasNan sumBy sqrtOf ofBits toBits add sub mul div neg lt ofInt isNan
+unfolding answer refusedResult allEffects beta inverse waldRow waldSum covInv waldSs rowOf normalAt normalSystem places table halfOf leftHalf effectCode codesFrom productsOf products designRow lentZeros zeroRight unitRow unit clearOther clearOthers scaled reduced fullColumn fullColumns matrixInverse cleared column forward backSum backValue backRow backward solveLinearSystem swapRows better pivotRow pivoted clearRow clearBelow repeatedMeasuresAnova repeatedAnswer repeatedRefusal designRefusal firstFault subjectFault noSubjects noConditions subjectMeans conditionSum conditionMeans ssTotal ssSubjects ssConditions part computeSphericityCorrections correctionsOf cscHere ggOf values ggRaw epsilonGg hfRaw usable epsilonHf trace meanTrace det wRaw mauchlyW dfW matrixDeterminant detOf twoByTwo absOf isFinite leastOf greatestOf clampOf powerFrom powerOf contrastCovariance fits throughContrasts orthonormalContrasts contrasts contrastRows contrastRow covMatrix covRows covRow noCovariances covariance covSum computeEigenvalues diagonal rounds round qrHere zeros qrColumns qrColumn remains normalize newColumn putColumn projections project lessColumn columnOf blankColumn matrixMultiplyCsc csc blank product productRow orthonormalize orthonormalRows orthonormalRow normalizeRow projectRows projectRow overRow lessRow refuses dot lent twoWayAnova squaresOf answerOf twoWayRefusal shapeRefusal levelsRefusal cellsRefusal largest cells cell numbers tallyLine listed noLevels noCells margins cellMeans ssError unlike otherCount meanLine meanMargins abRow ssAb balancedSs balanceRefusal studyRefusal componentsOf gaugeStudy loop turns oneWayAnova anova fisherAnova welchAnova noSizes noMeans oneWayRefusal sizesRefusal groupFault guarded total cut some sumBy sqrtOf ofBits toBits add sub mul div neg lt ofInt isNan
 worked = refl

@@ -1,4 +1,4 @@
--- `base::sizes_refusal` meets its contract.
+-- Three tests in the definition's order. Behind the first one there are at most `most` sizes, so the sum of the first `most` is the sum of all.
 use Prim.Native.Nat.{_-_}
 use mathlib.Core.Path.{_≡_, _∙_}
 use borrow.Author.Needs.{needs}
@@ -35,14 +35,18 @@ new-requires-3 c κs = search needs
 
 returns-3 : tie.Need-returns-3
 unfolding sizesRefusal
-returns-3 c = let e = c .before .before in rw (c .new3 .ensures, le-ltb _ _ (e .before .before .if1 .left), le-ltb 512 _ (e .before .if2 .left), ← needed e, ne-eqb _ _ (c .before .if3 .taken))
+returns-3 c =
+    let e = c .before .before in
+    rw (c .new3 .ensures, le-ltb _ _ (e .before .before .if1 .left), le-ltb 512 _ (e .before .if2 .left), ← needed e, ne-eqb _ _ (c .before .if3 .taken))
 
 none-requires : tie.Need-none-requires
 none-requires c κs = search needs
 
 returns-4 : tie.Need-returns-4
 unfolding sizesRefusal
-returns-4 c = let e = c .before .before in rw (c .none .ensures, le-ltb _ _ (e .before .before .if1 .left), le-ltb 512 _ (e .before .if2 .left), ← needed e, eq-eqb _ _ (c .before .if3 .left))
+returns-4 c =
+    let e = c .before .before in
+    rw (c .none .ensures, le-ltb _ _ (e .before .before .if1 .left), le-ltb 512 _ (e .before .if2 .left), ← needed e, eq-eqb _ _ (c .before .if3 .left))
 
 pub sizes-refusal-spec : {M : Type 1} → statement M
 sizes-refusal-spec =

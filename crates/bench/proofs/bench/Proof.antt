@@ -1,11 +1,12 @@
--- `bench::bench` meets its contract.
+-- The checks stand in the definition's order, and the six figures are written behind the last one.
 use Prim.Native.Nat.{_≤_, _-_, _*_}
 use mathlib.Core.Path.{_∙_, ap}
 use native.Mathlib.Omega.{arith}
 use borrow.Author.Needs.{needs}
 use lib.ListN.{length}
 use Rattle.bench.specs.Calls.{floatBytes, figures}
-use Rattle.base.proofs.Runs.{run, length-over}
+use Rattle.base.specs.Lists.{run}
+use Rattle.base.proofs.Runs.{length-over}
 use Rattle.bench.proofs.Writes.{length-floats}
 use Rattle.bench.proofs.Writes.{too-short, refuses, writes}
 use Rattle.bench.proofs.bench.Statement.{statement}
@@ -18,7 +19,9 @@ set-anova-requires : tie.Need-set-anova-requires
 set-anova-requires c κs = search needs
 
 returns-2 : tie.Need-returns-2
-returns-2 c = refuses _ _ _ (c .before .before .before .before .if1 .left) (c .before .before .before .set-anova .result) (c .before .before .before .set-anova .ensures) (c .if2 .taken)
+returns-2 c =
+    let e = c .before .before .before in
+    refuses _ _ _ (e .before .if1 .left) (e .set-anova .result) (e .set-anova .ensures) (c .if2 .taken)
 
 slice-aggregate-put-floats : tie.Need-slice-aggregate-put-floats
 slice-aggregate-put-floats c = search needs
@@ -28,9 +31,10 @@ put-floats-requires c κs = omega arith
 
 same-length : tie.Need-same-length
 same-length c =
-    let a = c .before .before .before .before .before .before .before .before .set-anova .result in
-    let o = c .before .before .before .before .before .before .before .before .before .before .before .before .args .out .now in
-    let room : length (figures a) * 8 ≤ length o = omega (arith, c .before .before .before .before .before .before .before .before .before .if1 .left) in
+    let e = c .before .before .before .before .before .before .before .before in
+    let a = e .set-anova .result in
+    let o = e .before .before .before .before .args .out .now in
+    let room : length (figures a) * 8 ≤ length o = omega (arith, e .before .if1 .left) in
     ap length (c .before .before .put-floats .ensures) ∙ length-over (run floatBytes (figures a)) o (rw (length-floats (figures a)) room)
 
 returns-3 : tie.Need-returns-3

@@ -1,4 +1,4 @@
--- `bench::put_floats` meets its contract.
+-- Each float's eight bytes are put where those before it end: what is left to put from float i on gives the whole.
 use Prim.Native.Nat.{_≤_, _-_, _+_, _*_}
 use mathlib.Core.Path.{_≡_, refl, _∙_, ap}
 use native.Mathlib.Omega.{arith}
@@ -11,7 +11,8 @@ use lib.Ieee.{nan}
 use lib.ListN.{getD}
 use Rattle.set.specs.Bytes.{bytes}
 use Rattle.set.proofs.Littles.{length-bytes}
-use Rattle.base.proofs.Runs.{run, run-step, run-end, sets-over}
+use Rattle.base.specs.Lists.{run}
+use Rattle.base.proofs.Runs.{run-step, run-end, sets-over}
 use Rattle.text.proofs.Puts.{put-lays}
 use Rattle.bench.proofs.Writes.{eight, length-floats}
 use Rattle.base.specs.Lists.{over}
@@ -25,14 +26,21 @@ Inv-loop out₀ figures i₀ out i = (i ≤ length figures) × (length out ≡ l
 abbrev μ-loop : tie.MeasureT-loop
 μ-loop out₀ figures i₀ out i = length figures - i
 
--- what the call of `put` leaves
-laid : (c : tie.After-put Inv-loop μ-loop) → (let at = c .before .before .before .before .before .before .before in c .put .last .0 ≡ sets (at .loop .out) (at .loop .i * 8) (floatBytes (getD (at .before .before .before .args .figures .now) (at .loop .i) nan)))
+-- the turn in which `put` is called, and what the call leaves
+abbrev turn : tie.After-put Inv-loop μ-loop → tie.In-loop Inv-loop μ-loop
+turn c = c .before .before .before .before .before .before
+
+laid : (c : tie.After-put Inv-loop μ-loop)
+    → (let at = turn c .before in
+    let xs = at .before .before .before .args .figures .now in
+    c .put .last .0 ≡ sets (at .loop .out) (at .loop .i * 8) (floatBytes (getD xs (at .loop .i) nan)))
 laid c =
-    let at = c .before .before .before .before .before .before .before in
+    let at = turn c .before in
     let b = c .before .before .before .le-bytes in
     let e = b .ensures ∙ ap (bytes 8) (c .before .before .before .before .bits-of .ensures) in
-    let h = c .before .before .before .before .before .before .loop-test .taken in
-    let room : at .loop .i * 8 + length (b .result) ≤ length (at .loop .out) = rw (e, length-bytes) (omega (arith, at .before .before .before .pre)) in
+    let h = turn c .loop-test .taken in
+    let n : length (b .result) ≡ 8 = ap length e ∙ length-bytes 8 _ in
+    let room : at .loop .i * 8 + length (b .result) ≤ length (at .loop .out) = omega (arith, n, at .before .before .before .pre) in
     put-lays (at .loop .out) (at .loop .i * 8) (b .result) room (c .put .ensures) ∙ ap (sets (at .loop .out) (at .loop .i * 8)) e
 
 loop-holds : tie.Need-loop-holds Inv-loop μ-loop
@@ -69,14 +77,15 @@ loop-less c = omega arith
 
 loop-again : tie.Need-loop-again Inv-loop μ-loop
 loop-again c =
-    let at = c .before .before .before .before .before .before .before .before .before in
+    let p = c .before .before in
+    let l = turn p in
+    let at = l .before in
     let s = at .before .before .before in
-    let l = c .before .before .before .before .before .before in
-    let p = c .before .before .put in
-    let q = laid (c .before .before) in (
+    let xs = s .args .figures .now in
+    let q = laid p in (
       omega arith,
       rw (q, length-sets) (at .loop .inv .1),
-      run-step floatBytes (s .args .figures .now) nan (at .loop .i) (c .before .before .before .before .before .before .before .before .loop-test .taken) (at .loop .out) (at .loop .i * 8) (at .loop .inv .2) q (rw (eight (getD (s .args .figures .now) (at .loop .i) nan)) (omega arith)),
+      run-step floatBytes xs nan (at .loop .i) (l .loop-test .taken) (at .loop .out) (at .loop .i * 8) (at .loop .inv .2) q (rw (eight (getD xs (at .loop .i) nan)) (omega arith)),
     )
 
 same-length : tie.Need-same-length Inv-loop μ-loop

@@ -1,4 +1,4 @@
--- `fisherline::main` meets its contract.
+-- What is printed lies within the 256 places, since the answer ends within them.
 use Prim.Native.Nat.{_-_}
 use mathlib.Core.Path.{sym}
 use native.Mathlib.Omega.{arith}

@@ -1,4 +1,4 @@
--- `float::canon_places` meets its contract.
+-- Each place is handed through `canon`, which changes no number.
 use Prim.Native.Nat.{_-_}
 use mathlib.Core.Path.{_≡_, refl, _∙_}
 use native.Mathlib.Omega.{arith}

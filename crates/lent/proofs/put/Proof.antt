@@ -1,4 +1,4 @@
--- `lent::put` meets its contract.
+-- Place after place gets its number, where all find room.
 use Prim.Native.Nat.{_≤_, _-_}
 use mathlib.Core.Path.{_≡_, refl, sym, _∙_}
 use mathlib.Core.List.{map, map-id}

@@ -1,4 +1,4 @@
--- `lent::wipe` meets its contract.
+-- Place after place becomes +0.0, up to 6,400 or the end.
 use Prim.Native.Nat.{_≤_, _-_}
 use mathlib.Core.Path.{_≡_, refl}
 use native.Mathlib.Omega.{arith}

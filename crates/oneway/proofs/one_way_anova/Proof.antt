@@ -1,9 +1,10 @@
--- `oneway::one_way_anova` meets its contract.
+-- Readings that passed the checks are parted into groups (`parted`), so their summary is that of the groups' rows, and has a line for each group.
 use Prim.Native.Nat.{_-_}
 use borrow.Author.Needs.{needs}
 use Rattle.base.proofs.Order.{answers-refused, answers-numbers}
-use Rattle.door.specs.Checks.{Passed}
-use Rattle.door.proofs.Doors.{passed}
+use Rattle.oneway_rows.specs.Inner.{Parted}
+use lib.ListN.{length}
+use Rattle.oneway_rows.proofs.Parts.{parted}
 use Rattle.oneway.specs.Anova.{anova, oneWayAnova}
 use Rattle.oneway.proofs.Summaries.{lined-groups}
 use Rattle.oneway.proofs.one_way_anova.Statement.{statement}
@@ -20,8 +21,8 @@ unfolding oneWayAnova
 returns c = answers-refused _ _ _ (c .before .before .before .one-way-refusal .ensures) (c .before .if1 .taken) (c .refused .ensures)
 
 -- what the checks leave known
-known : (c : tie.Else1) → (let a = c .before .before .before .before .before .args in Passed (a .readings .now) (a .sizes .now))
-known c = passed _ _ (rw (c .before .before .one-way-refusal .ensures) at (c .if1 .left))
+known : (c : tie.Else1) → (let a = c .before .before .before .before .before .args in Parted (length (a .readings .now)) (a .sizes .now))
+known c = parted _ _ (rw (c .before .before .one-way-refusal .ensures) at (c .if1 .left))
 
 summarize-requires : tie.Need-summarize-requires
 summarize-requires c κs = known c

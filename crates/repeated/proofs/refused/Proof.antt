@@ -4,7 +4,7 @@ use borrow.Author.Needs.{needs}
 use Rattle.repeated.proofs.refused.Statement.{statement}
 use Rattle.repeated.proofs.refused.Tie as tie
 use Rattle.repeated.specs.Results.{refusedResult}
-use Rattle.grid.specs.Table.{noSubjects, noConditions}
+use Rattle.repeated_grid.specs.Table.{noSubjects, noConditions}
 
 no-corrections-requires : tie.Need-no-corrections-requires
 no-corrections-requires c κs = search needs

@@ -1,12 +1,13 @@
--- `repeated::repeated_measures_anova` meets its contract.
+-- A refusal ends the call; otherwise what the checks leave known is what the answer asks.
 use Prim.Native.Nat.{_-_}
 use native.Mathlib.Omega.{arith}
 use borrow.Author.Needs.{needs}
 use lib.ListN.{length}
 use Rattle.repeated.proofs.repeated_measures_anova.Statement.{statement}
 use Rattle.repeated.proofs.repeated_measures_anova.Tie as tie
-use Rattle.subjects.specs.Checks.{Passed, conditions}
-use Rattle.subjects.proofs.Doors.{passed}
+use Rattle.repeated_checks.specs.Checks.{conditions}
+use Rattle.repeated_checks.specs.Inner.{Passed}
+use Rattle.repeated_checks.proofs.Doors.{passed}
 use Rattle.base.proofs.Order.{answers-refused, answers-numbers}
 use Rattle.repeated.specs.Anova.{repeatedMeasuresAnova}
 use Rattle.repeated.proofs.Designs.{table-there}

@@ -1,4 +1,4 @@
--- `root::exponent`: either side of `lead`.
+-- Either side of `lead`: below it the leading zeros say the exponent, from it on the pattern's field does.
 use mathlib.Core.Path.{sym}
 use native.Mathlib.Omega.{arith}
 use borrow.Author.Needs.{needs}

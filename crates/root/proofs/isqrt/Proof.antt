@@ -1,4 +1,4 @@
--- `root::isqrt`: n stays below the square of r + 1, and r falls.
+-- A Newton step from any guess gives at least the root, so n stays below the square of r + 1. From a guess whose square is above n it gives less, so the loop ends, and it ends at the root.
 use Prim.Native.Nat.{_+_, _*_, _/_, _^_, _<_}
 use native.Mathlib.Nat.{lt-trans, div-le-self}
 use native.Mathlib.Omega.{arith}

@@ -1,4 +1,4 @@
--- `root::root_bits`: the pieces put together, and that each is short enough.
+-- `long_root` gives the root cut to a whole number. There is only one such number (`Floor.antt`), so it is what the definition finds digit by digit. Each piece is short enough for 64 bits.
 use mathlib.Core.Path.{_≡_, sym, ap, _∙_, subst}
 use Prim.Native.Nat.{ℕ, _+_, _*_, _/_, _<_}
 use native.Mathlib.Omega.{arith}

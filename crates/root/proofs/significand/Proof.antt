@@ -1,4 +1,4 @@
--- `root::significand`: either side of `lead`.
+-- Either side of `lead`: below it the leading zeros say how far the digits are moved up, and none is lost; from it on they are read off the pattern.
 use mathlib.Core.Path.{sym, _∙_, subst}
 use Prim.Native.Nat.{ℕ, _<_, _≤_}
 use native.Mathlib.Nat.{mod-eq-of-lt, lt-of-lt-of-le}

@@ -1,9 +1,9 @@
--- `root::sqrt`: each way out is a case of `Cases.antt`.
+-- Each test of the code is a case of x: a NaN, a number below zero, a zero, the infinity. What is left is finite and above zero: there the definition is the pattern of `root_bits` (`Cases.antt`).
 use mathlib.Core.Path.{sym, ap, _∙_, subst}
 use Prim.Native.Nat.{ℕ, _<_}
 use lib.Dec.{T}
 use lib.Ieee.{binary64, fits, ofBits, toBits}
-use Rattle.root.specs.Root.{infinity}
+use Rattle.root.specs.Nearest.{infinity}
 use Rattle.float.proofs.Tested.{invalid, has-bits}
 use Rattle.root.proofs.Cases.{Above, root-nan, root-below, root-zero, root-infinity, is-above, bits-range, root-above, root-lt-infinity, root-no-nan}
 use Rattle.root.proofs.sqrt.Statement.{statement}

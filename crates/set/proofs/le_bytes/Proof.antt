@@ -1,4 +1,4 @@
--- `set::le_bytes` meets its contract.
+-- The bytes that are left of what is left, put from place i on, are the bytes of the number.
 use Prim.Native.Nat.{_≤_, _-_}
 use mathlib.Core.Path.{_≡_, refl}
 use native.Mathlib.Omega.{arith}

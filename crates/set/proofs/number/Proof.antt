@@ -1,4 +1,4 @@
--- `set::number` meets its contract.
+-- From the end on: what was read is the number of the bytes from place i on. Eight bytes are a u64.
 use Prim.Native.Nat.{ℕ, _≤_, _-_}
 use mathlib.Core.Path.{_≡_, sym, _∙_, ap}
 use native.Mathlib.Omega.{arith}

@@ -1,4 +1,4 @@
--- `set::read_set` meets its contract.
+-- A set that passed its checks is long enough for its sizes and for its readings (`Headed`).
 use Prim.Native.Nat.{_-_}
 use mathlib.Core.Path.{_≡_, sym}
 use native.Mathlib.Omega.{arith}
@@ -70,18 +70,20 @@ part-readings-in-end c = omega arith
 
 readings-in-requires : tie.Need-readings-in-requires
 readings-in-requires c κs =
-    let e = c .before .before .before .before .before .before in
-    let s = c .before .before .sizes-in in
-    body-fits _ (zero e) _ (c .before .before .before .before .number .ensures) (s .result) (s .ensures)
+    let s = c .before .before in
+    let d = s .before .before in
+    let e = d .before .before in
+    body-fits _ (zero e) _ (d .number .ensures) (s .sizes-in .result) (s .sizes-in .ensures)
 
 none-requires : tie.Need-none-requires
 none-requires c κs = search needs
 
 returns-2 : tie.Need-returns-2
 returns-2 c =
-    let e = c .before .before .before .before .before .before .before .before .before in
-    let s = c .before .before .before .before .before .sizes-in in
-    rw (c .none .ensures) (set-made _ (zero e) _ (c .before .before .before .before .before .before .before .number .ensures) (s .result) (s .ensures) _ (c .before .before .readings-in .ensures))
+    let s = c .before .before .before .before .before in
+    let d = s .before .before in
+    let e = d .before .before in
+    rw (c .none .ensures) (set-made _ (zero e) _ (d .number .ensures) (s .sizes-in .result) (s .sizes-in .ensures) _ (c .before .before .readings-in .ensures))
 
 pub read-set-spec : {M : Type 1} → statement M
 read-set-spec =

@@ -1,4 +1,4 @@
--- `set::readings_in` meets its contract.
+-- Place after place is filled with the reading of its eight bytes.
 use Prim.Native.Nat.{_≤_, _-_, _+_, _*_}
 use mathlib.Core.Path.{_≡_, refl, _∙_, ap}
 use native.Mathlib.Omega.{arith}

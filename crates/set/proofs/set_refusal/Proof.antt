@@ -1,4 +1,4 @@
--- `set::set_refusal` meets its contract.
+-- The checks stand in the definition's order. What each one needs of the bytes lies within the length that those before it asked.
 use Prim.Native.Nat.{ℕ, _-_}
 use mathlib.Core.Path.{_≡_, sym, _∙_, ap}
 use native.Mathlib.Omega.{arith}
@@ -17,10 +17,15 @@ use Rattle.set.proofs.set_refusal.Statement.{statement}
 use Rattle.set.proofs.set_refusal.Tie as tie
 
 -- how many readings the sizes add up to, as the code has it
-counted : (c : tie.After-sizes-in) → c .sizes-in .result .total ≡ Lists.total (map little (words 2 (c .before .before .before .before .number .result) (drop 2 (c .before .before .before .before .before .before .before .before .args .set .now))))
+counted : (c : tie.After-sizes-in)
+    → (let d = c .before .before .before .before in
+    let bs = d .before .before .before .before .args .set .now in
+    c .sizes-in .result .total ≡ Lists.total (map little (words 2 (d .number .result) (drop 2 bs))))
 counted c =
+    let d = c .before .before .before .before in
+    let bs = d .before .before .before .before .args .set .now in
     ap (λ (t : Contents). t .total) (c .sizes-in .ensures)
-    ∙ ap (λ (l : List ℕ). Lists.total (map little (words 2 (c .before .before .before .before .number .result) l))) (rest-part 2 (c .before .before .before .before .before .before .before .before .args .set .now))
+    ∙ ap (λ (l : List ℕ). Lists.total (map little (words 2 (d .number .result) l))) (rest-part 2 bs)
 
 new-requires : tie.Need-new-requires
 new-requires c κs = search needs

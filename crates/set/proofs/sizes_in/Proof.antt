@@ -1,4 +1,4 @@
--- `set::sizes_in` meets its contract.
+-- Place after place is filled with the number of its two bytes, and the numbers are added up beside them: 16 of them do not wrap.
 use Prim.Native.Nat.{ℕ, _≤_, _<_, _-_, _+_, _*_}
 use mathlib.Core.Path.{_≡_, refl, _∙_, ap}
 use native.Mathlib.Omega.{arith}
@@ -36,7 +36,8 @@ ends c =
 small : (c : tie.After-number Inv-loop μ-loop) → c .number .result < 65536
 small c =
     let at = c .before .before .before in
-    rw (c .number .ensures, add-sub-cancel-left) (little-two (at .loop .g * 2) (at .before .before .args .bytes .now) (λ (j : ℕ). at .before .shared-slice-known .given j .fits) (simp length-take (omega arith)))
+    let known = at .before .shared-slice-known in
+    rw (c .number .ensures, add-sub-cancel-left) (little-two (at .loop .g * 2) (at .before .before .args .bytes .now) (λ (j : ℕ). known .given j .fits) (simp length-take (omega arith)))
 
 loop-holds : tie.Need-loop-holds Inv-loop μ-loop
 unfolding noSizes

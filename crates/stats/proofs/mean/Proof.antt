@@ -1,4 +1,4 @@
--- `stats::mean` meets its contract.
+-- The check is the definition's. At most 512 readings pass it, and a double holds their number.
 use Prim.Native.Nat.{_-_}
 use native.Mathlib.Omega.{arith}
 use borrow.Author.Needs.{needs}

@@ -1,4 +1,4 @@
--- `stats::mean_refusal` meets its contract.
+-- Two tests in the definition's order.
 use Prim.Native.Nat.{_-_}
 use borrow.Author.Needs.{needs}
 use borrow.Author.Tests.{eq-eqb, ne-eqb, lt-ltb, le-ltb}

@@ -1,4 +1,4 @@
--- `stats::variance_refusal` meets its contract.
+-- Two tests in the definition's order.
 use Prim.Native.Nat.{_-_}
 use borrow.Author.Needs.{needs}
 use borrow.Author.Tests.{lt-ltb, le-ltb}

@@ -1,4 +1,4 @@
--- `study::balance_refusal` meets its contract.
+-- All counts are alike exactly where the first unlike one is the first.
 use Prim.Native.Nat.{_-_}
 use mathlib.Core.Path.{sym, _∙_}
 use native.Mathlib.Omega.{arith}

@@ -1,4 +1,4 @@
--- `study::components` meets its contract.
+-- The definition's operations in its order; levels and readings are so few that each count is a double.
 use Prim.Native.Nat.{_-_}
 use native.Mathlib.Omega.{arith}
 use borrow.Author.Needs.{needs}

@@ -1,4 +1,4 @@
--- `text::fill` meets its contract.
+-- The digits are put from the last one on: what is left of n is what the places before will hold.
 use mathlib.Core.Path.{_≡_, refl}
 use mathlib.Core.List.{_++_}
 use Prim.Native.Nat.{_≤_}

@@ -1,4 +1,4 @@
--- `text::put` meets its contract.
+-- Byte after byte is put, where all find room; else nothing is touched and the place is the old one.
 use Prim.Native.Nat.{_≤_, _-_, _+_}
 use mathlib.Core.Path.{_≡_, refl}
 use native.Mathlib.Omega.{arith}

@@ -1,4 +1,4 @@
--- `text::width` meets its contract.
+-- The number is divided by the base until nothing is left; each turn counts a digit.
 use native.Mathlib.Omega.{arith}
 use borrow.Author.Needs.{needs}
 use Rattle.text.proofs.Widths.{Counting, starts, counts, stops}

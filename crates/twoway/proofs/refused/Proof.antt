@@ -2,7 +2,7 @@
 use Prim.Native.Nat.{_-_}
 use borrow.Author.Needs.{needs}
 use Rattle.twoway.specs.Results.{refusedResult}
-use Rattle.margins.specs.Table.{noCells, noLevels}
+use Rattle.twoway_means.specs.Table.{noCells, noLevels}
 use Rattle.twoway.proofs.refused.Statement.{statement}
 use Rattle.twoway.proofs.refused.Tie as tie
 

@@ -1,16 +1,23 @@
--- `twoway::two_way_anova` meets its contract.
+-- A passed design (`Held`) has its cells one after another in the scratch, so the table is that of the cells; the effects wipe the scratch, readings and all.
 use Prim.Native.Nat.{_-_}
 use mathlib.Core.Path.{sym}
 use native.Mathlib.Omega.{arith}
 use borrow.Author.Needs.{needs}
 use Rattle.twoway.proofs.Design.{refused-there, ready, small, answer-there, front-length, counts-length, means-wide, means-taken, left-length}
-use Rattle.cells.proofs.Designs.{Held, held, passes}
+use Rattle.twoway_cells.proofs.Designs.{Held, held, passes}
 use Rattle.twoway.proofs.two_way_anova.Statement.{statement}
 use Rattle.twoway.proofs.two_way_anova.Tie as tie
 
 -- what the checks leave known
 hold : (c : tie.Else1) → (let s = c .before .before .before .before in let a = s .before .before .before .before .before .before .args in Held (a .values .now) (a .factor-a .now) (a .factor-b .now) (a .scratch .now) (s .organize-two-way-data .last .1 .1 .1 .0) (s .organize-two-way-data .result))
 hold c = held _ _ _ _ _ _ (c .before .before .before .before .organize-two-way-data .ensures) (c .if1 .left)
+
+-- the place behind the checks, seen from the cells' table and from behind the effects
+abbrev checked : tie.After-cell-table → tie.Else1
+checked c = c .before .before .before .before
+
+abbrev tabled : tie.After-squares → tie.After-cell-table
+tabled c = c .before .before .before .before .before
 
 organize-two-way-data-requires : tie.Need-organize-two-way-data-requires
 organize-two-way-data-requires c κs = search needs
@@ -43,34 +50,38 @@ cell-table-requires : tie.Need-cell-table-requires
 cell-table-requires c κs = search needs
 
 mul-means : tie.Need-mul-means
-mul-means c = omega (arith, (hold (c .before .before .before .before .before)) .few)
+mul-means c = omega (arith, hold (checked (c .before)) .few)
 
 array-share-prefix-means : tie.Need-array-share-prefix-means
-array-share-prefix-means c = omega (arith, (hold (c .before .before .before .before .before)) .few, means-wide _ _ _ _ _ _ (hold (c .before .before .before .before .before)) _ (c .before .cell-table .ensures))
+array-share-prefix-means c = let h = hold (checked (c .before)) in omega (arith, h .few, means-wide _ _ _ _ _ _ h _ (c .before .cell-table .ensures))
 
 slice-aggregate-squares : tie.Need-slice-aggregate-squares
-slice-aggregate-squares c = sym (means-taken _ _ _ _ _ _ (hold (c .before .before .before .before .before .before)) _ (c .before .before .cell-table .ensures))
+slice-aggregate-squares c = sym (means-taken _ _ _ _ _ _ (hold (checked (c .before .before))) _ (c .before .before .cell-table .ensures))
 
 mul-counts-2 : tie.Need-mul-counts-2
-mul-counts-2 c = omega (arith, (hold (c .before .before .before .before .before .before)) .few)
+mul-counts-2 c = omega (arith, (hold (checked (c .before .before))) .few)
 
 array-share-prefix-counts-2 : tie.Need-array-share-prefix-counts-2
-array-share-prefix-counts-2 c = omega (arith, (hold (c .before .before .before .before .before .before)) .few, (hold (c .before .before .before .before .before .before)) .wide)
+array-share-prefix-counts-2 c = omega (arith, (hold (checked (c .before .before))) .few, (hold (checked (c .before .before))) .wide)
 
 slice-aggregate-squares-2 : tie.Need-slice-aggregate-squares-2
-slice-aggregate-squares-2 c = sym (counts-length _ _ _ _ _ _ (hold (c .before .before .before .before .before .before .before)))
+slice-aggregate-squares-2 c = sym (counts-length _ _ _ _ _ _ (hold (checked (c .before .before .before))))
 
 squares-requires : tie.Need-squares-requires
-squares-requires c κs = ready _ _ _ _ _ _ (hold (c .before .before .before .before .before .before .before .before))
+squares-requires c κs = ready _ _ _ _ _ _ (hold (checked (c .before .before .before .before)))
 
 answer-requires : tie.Need-answer-requires
-answer-requires c κs = small _ _ _ _ _ _ (hold (c .before .before .before .before .before .before .before .before .before .before .before))
+answer-requires c κs = small _ _ _ _ _ _ (hold (checked (tabled (c .before .before))))
 
 same-length-2 : tie.Need-same-length-2
-same-length-2 c = left-length _ _ _ _ _ _ (hold (c .before .before .before .before .before .before .before .before .before .before .before .before)) _ _ _ (c .before .before .before .squares .ensures)
+same-length-2 c = left-length _ _ _ _ _ _ (hold (checked (tabled (c .before .before .before)))) _ _ _ (c .before .before .before .squares .ensures)
 
 returns-2 : tie.Need-returns-2
-returns-2 c = answer-there _ _ _ _ _ _ (hold (c .before .before .before .before .before .before .before .before .before .before .before .before)) _ _ _ _ (passes _ _ _ _ _ _ (c .before .before .before .before .before .before .before .before .before .before .before .before .before .before .before .before .organize-two-way-data .ensures) (c .before .before .before .before .before .before .before .before .before .before .before .before .if1 .left)) (c .before .before .before .before .before .before .before .before .cell-table .ensures) (c .before .before .before .squares .ensures) (c .answer .ensures)
+returns-2 c =
+    let squared = c .before .before .before in
+    let table = tabled squared in
+    let passed = checked table in
+    answer-there _ _ _ _ _ _ (hold passed) _ _ _ _ (passes _ _ _ _ _ _ (passed .before .before .before .before .organize-two-way-data .ensures) (passed .if1 .left)) (table .cell-table .ensures) (squared .squares .ensures) (c .answer .ensures)
 
 pub two-way-anova-spec : {M : Type 1} → statement M
 two-way-anova-spec =

@@ -1,4 +1,4 @@
--- `fisherline::answers::answer` meets its contract.
+-- The two lengths are asked first; then the answer is either a refusal or Fisher's five lines, and both fit into 256 places.
 use Prim.Native.Nat.{_-_}
 use mathlib.Core.Path.{_∙_, ap}
 use native.Mathlib.Omega.{arith}
@@ -26,7 +26,9 @@ same-length c = puts-length _ 0 _ (c .before .before .refused .ensures)
 returns-2 : tie.Need-returns-2
 returns-2 c =
     let t = c .before .before .before .before .before in
-    too-long _ _ (t .before .if1 .left) (t .if2 .taken) (c .before .before .refused .ensures ∙ ap (λ (r : Refusal). puts (t .before .before .before .before .args .out .now) 0 (refusedText r)) (c .before .before .before .new .ensures))
+    let o = t .before .before .before .before .args .out .now in
+    too-long _ _ (t .before .if1 .left) (t .if2 .taken)
+    (c .before .before .refused .ensures ∙ ap (λ (r : Refusal). puts o 0 (refusedText r)) (c .before .before .before .new .ensures))
 
 set-anova-requires : tie.Need-set-anova-requires
 set-anova-requires c κs = search needs
@@ -40,7 +42,8 @@ same-length-2 c = puts-length _ 0 _ (c .before .before .refused2 .ensures)
 returns-3 : tie.Need-returns-3
 returns-3 c =
     let e = c .before .before .before .before .before .before .before in
-    answers-refusal _ _ (e .before .before .if1 .left) (e .before .if2 .left) (e .set-anova .result) (e .set-anova .ensures) (c .before .before .before .before .if3 .taken) (c .before .before .refused2 .ensures)
+    answers-refusal _ _ (e .before .before .if1 .left) (e .before .if2 .left) (e .set-anova .result) (e .set-anova .ensures)
+    (c .before .before .before .before .if3 .taken) (c .before .before .refused2 .ensures)
 
 fisher-requires : tie.Need-fisher-requires
 fisher-requires c κs = omega arith
@@ -51,7 +54,8 @@ same-length-3 c = puts-length _ 0 _ (c .before .before .fisher .ensures)
 returns-4 : tie.Need-returns-4
 returns-4 c =
     let e = c .before .before .before .before .before .before .before in
-    answers-fisher _ _ (e .before .before .if1 .left) (e .before .if2 .left) (e .set-anova .result) (e .set-anova .ensures) (c .before .before .before .before .if3 .left) (c .before .before .fisher .ensures)
+    answers-fisher _ _ (e .before .before .if1 .left) (e .before .if2 .left) (e .set-anova .result) (e .set-anova .ensures)
+    (c .before .before .before .before .if3 .left) (c .before .before .fisher .ensures)
 
 pub answer-spec : {M : Type 1} → statement M
 answer-spec =

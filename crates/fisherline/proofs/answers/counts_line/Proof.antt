@@ -1,27 +1,39 @@
--- `fisherline::answers::counts_line` meets its contract.
+-- The name, the numbers and the newline are put one behind the other; the caller's room for the whole line is room for each.
 use Prim.Native.Nat.{ℕ, _-_}
 use mathlib.Core.Path.{_≡_}
 use mathlib.Core.List.{List}
 use borrow.Author.Needs.{needs}
-use Rattle.base.proofs.Runs.{run}
+use Rattle.base.specs.Lists.{run}
 use Rattle.fisherline.specs.Rows.{spacedDecimal, countsLine, puts}
 use Rattle.fisherline.proofs.Spaced.{line-room, line-made, puts-length}
 use Rattle.fisherline.proofs.answers.counts_line.Statement.{statement}
 use Rattle.fisherline.proofs.answers.counts_line.Tie as tie
 
+-- where the call begins, and its three calls
+abbrev numbers : tie.After-slice-known4 → tie.After-put-counts
+numbers c = c .before .before .before .before .before .before .before
+
+abbrev name : tie.After-put-counts → tie.After-put
+name c = c .before .before .before .before
+
+abbrev start : tie.After-put → tie.Start
+start c = c .before .before .before .before .before
+
 -- the line, from its three calls
-made : (c : tie.After-slice-known4) → (let s = c .before .before .before .before .before .before .before .before .before .before .before .before .before .before .before .before .args in _≡_ {A = List ℕ × ℕ} (c .before .before .put2 .last .0, c .before .before .put2 .result) (puts (s .out .now) (s .at) (countsLine (s .name .now) (s .ns .now))))
+made : (c : tie.After-slice-known4)
+    → (let s = start (name (numbers c)) .args in _≡_ {A = List ℕ × ℕ} (c .before .before .put2 .last .0, c .before .before .put2 .result) (puts (s .out .now) (s .at) (countsLine (s .name .now) (s .ns .now))))
 made c =
-    let s = c .before .before .before .before .before .before .before .before .before .before .before .before .before .before .before .before in
-    line-made (s .args .out .now) (s .args .at) (s .args .name .now) (run spacedDecimal (s .args .ns .now)) (s .pre) (c .before .before .before .before .before .before .before .before .before .before .before .put .ensures) (c .before .before .before .before .before .before .before .put-counts .ensures) (c .before .before .put2 .ensures)
+    let s = start (name (numbers c)) in
+    line-made (s .args .out .now) (s .args .at) (s .args .name .now) (run spacedDecimal (s .args .ns .now)) (s .pre) (name (numbers c) .put .ensures) (numbers c .put-counts .ensures) (c .before .before .put2 .ensures)
 
 put-requires : tie.Need-put-requires
 put-requires c κs = search needs
 
 put-counts-requires : tie.Need-put-counts-requires
 put-counts-requires c κs =
-    let s = c .before .before .before .before .before .before .before .before in
-    line-room (s .args .out .now) (s .args .at) (s .args .name .now) (run spacedDecimal (s .args .ns .now)) (s .pre) (c .before .before .before .put .ensures)
+    let p = c .before .before .before in
+    let s = start p in
+    line-room (s .args .out .now) (s .args .at) (s .args .name .now) (run spacedDecimal (s .args .ns .now)) (s .pre) (p .put .ensures)
 
 slice-aggregate-put : tie.Need-slice-aggregate-put
 slice-aggregate-put c = search needs

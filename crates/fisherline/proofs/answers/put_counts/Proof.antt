@@ -1,4 +1,4 @@
--- `fisherline::answers::put_counts` meets its contract.
+-- Each count is put where the one before it ended: what is left to put from count i on gives the whole.
 use Prim.Native.Nat.{_≤_, _-_, _+_}
 use mathlib.Core.Path.{_≡_, _∙_}
 use native.Mathlib.Omega.{arith}
@@ -8,7 +8,7 @@ use lib.ListN.{drop}
 use lib.Seq.{sets}
 use Rattle.text.specs.Numbers.{numeralOf}
 use Rattle.fisherline.proofs.Spaced.{spaced-turn, spaced-ends}
-use Rattle.base.proofs.Runs.{run}
+use Rattle.base.specs.Lists.{run}
 use Rattle.fisherline.specs.Rows.{spacedDecimal}
 use Rattle.fisherline.proofs.answers.put_counts.Statement.{statement}
 use Rattle.fisherline.proofs.answers.put_counts.Tie as tie
@@ -47,10 +47,13 @@ loop-less c = omega arith
 
 loop-again : tie.Need-loop-again Inv-loop μ-loop
 loop-again c =
-    let at = c .before .before .before .before .before .before .before .before .before .before .before in
+    let d = c .before .before in
+    let p = d .before .before .before .before .before in
+    let l = p .before .before .before in
+    let at = l .before in
     let s = at .before .before .before in
-    let h = c .before .before .before .before .before .before .before .before .before .before .loop-test .taken in
-    let t = spaced-turn numeralOf (s .args .ns .now) 0 (at .loop .i) h (at .loop .out) (at .loop .a) (at .loop .inv .2) (omega (arith, s .pre)) (at .loop .inv .3) (c .before .before .before .before .before .before .before .put .ensures) (c .before .before .put-decimal .ensures) in
+    let t = spaced-turn numeralOf (s .args .ns .now) 0 (at .loop .i) (l .loop-test .taken) (at .loop .out) (at .loop .a) (at .loop .inv .2) (omega (arith, s .pre)) (at .loop .inv .3)
+    (p .put .ensures) (d .put-decimal .ensures) in
     (omega arith, t .0 ∙ at .loop .inv .1, t .1, t .2)
 
 same-length : tie.Need-same-length Inv-loop μ-loop

@@ -1,4 +1,4 @@
--- `fisherline::answers::put_floats` meets its contract.
+-- Each float is put where the one before it ended: what is left to put from float i on gives the whole.
 use Prim.Native.Nat.{ℕ, _≤_, _-_, _+_}
 use mathlib.Core.Path.{_≡_, _∙_, ap}
 use native.Mathlib.Omega.{arith}
@@ -11,7 +11,7 @@ use Rattle.text.specs.Numbers.{hexOf}
 use Rattle.text.specs.Put.{putOf}
 use Rattle.fisherline.specs.Rows.{hexBits}
 use Rattle.fisherline.proofs.Spaced.{spaced-turn, spaced-ends}
-use Rattle.base.proofs.Runs.{run}
+use Rattle.base.specs.Lists.{run}
 use Rattle.fisherline.specs.Rows.{spacedHex}
 use Rattle.fisherline.proofs.answers.put_floats.Statement.{statement}
 use Rattle.fisherline.proofs.answers.put_floats.Tie as tie
@@ -53,12 +53,15 @@ loop-less c = omega arith
 
 loop-again : tie.Need-loop-again Inv-loop μ-loop
 loop-again c =
-    let at = c .before .before .before .before .before .before .before .before .before .before .before .before in
+    let x = c .before .before in
+    let b = x .before in
+    let p = b .before .before .before .before .before in
+    let l = p .before .before .before in
+    let at = l .before in
     let s = at .before .before .before in
-    let h = c .before .before .before .before .before .before .before .before .before .before .before .loop-test .taken in
-    let one = c .before .before .before .before .before .before .before .before .put in
-    let q = c .before .before .put-hex .ensures ∙ ap (λ (b : ℕ). putOf (one .last .0) (one .result) (hexOf b)) (c .before .before .before .bits-of .ensures) in
-    let t = spaced-turn hexBits (s .args .xs .now) nan (at .loop .i) h (at .loop .out) (at .loop .a) (at .loop .inv .2) (omega (arith, s .pre)) (at .loop .inv .3) (one .ensures) q in
+    let q = x .put-hex .ensures ∙ ap (λ (n : ℕ). putOf (p .put .last .0) (p .put .result) (hexOf n)) (b .bits-of .ensures) in
+    let t = spaced-turn hexBits (s .args .xs .now) nan (at .loop .i) (l .loop-test .taken) (at .loop .out) (at .loop .a) (at .loop .inv .2) (omega (arith, s .pre)) (at .loop .inv .3)
+    (p .put .ensures) q in
     (omega arith, t .0 ∙ at .loop .inv .1, t .1, t .2)
 
 same-length : tie.Need-same-length Inv-loop μ-loop

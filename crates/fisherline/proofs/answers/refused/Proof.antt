@@ -1,4 +1,4 @@
--- `fisherline::answers::refused` meets its contract.
+-- A line of three numbers has at most 71 bytes.
 use Prim.Native.Nat.{_-_}
 use native.Mathlib.Omega.{arith}
 use borrow.Author.Needs.{needs}

@@ -1,4 +1,4 @@
--- `oneway::fisher::fisher_anova` meets its contract.
+-- The rows that the summary was made of are read off its columns (`rows-back`); the rest is the definition's operations in its order.
 use Prim.Native.Nat.{_-_}
 use borrow.Author.Needs.{needs}
 use Rattle.oneway.specs.Fisher.{fisherAnova}
@@ -57,8 +57,31 @@ canon-requires-5 c κs = search needs
 returns : tie.Need-returns
 unfolding fisherAnova
 returns c rs e =
-    let sums = c .before .before .before .before .before .before .before .before .before in
-    rw (c .canon5 .ensures, c .before .canon4 .ensures, c .before .before .none .ensures, c .before .before .before .canon3 .ensures, c .before .before .before .before .canon2 .ensures, c .before .before .before .before .before .before .minus2 .ensures, c .before .before .before .before .before .before .before .before .minus .ensures, sums .sum-rows2 .ensures, sums .before .before .before .before .sum-rows .ensures, sums .before .before .before .before .before .before .before .before .canon .ensures, sums .before .before .before .before .before .before .before .before .before .before .sum .ensures, e, rows-back rs)
+    let f = c .before in
+    let told = f .before in
+    let within = told .before in
+    let between = within .before in
+    let dfWithin = between .before .before in
+    let dfBetween = dfWithin .before .before in
+    let ssWithin = dfBetween .before in
+    let ssBetween = ssWithin .before .before .before .before in
+    let grand = ssBetween .before .before .before .before in
+    let sum = grand .before .before in
+    rw (
+      c .canon5 .ensures,
+      f .canon4 .ensures,
+      told .none .ensures,
+      within .canon3 .ensures,
+      between .canon2 .ensures,
+      dfWithin .minus2 .ensures,
+      dfBetween .minus .ensures,
+      ssWithin .sum-rows2 .ensures,
+      ssBetween .sum-rows .ensures,
+      grand .canon .ensures,
+      sum .sum .ensures,
+      e,
+      rows-back rs,
+    )
 
 pub fisher-anova-spec : {M : Type 1} → statement M
 fisher-anova-spec =

@@ -1,10 +1,10 @@
--- `oneway::fisher::sum_rows` meets its contract.
+-- Line after line of the columns is added to one running sum.
 use Prim.Native.Nat.{_≤_, _-_}
 use mathlib.Core.Path.{_∙_}
 use native.Mathlib.Omega.{arith}
 use borrow.Author.Needs.{needs}
 use Rattle.stats.proofs.Adding.{Left, sum-starts}
-use Rattle.oneway.specs.Summary.{linesOf, row}
+use Rattle.oneway.specs.Inner.{linesOf, row}
 use Rattle.oneway.specs.Fisher.{squaresOf}
 use Rattle.oneway.proofs.Columns.{line-step, line-ends}
 use Rattle.oneway.proofs.fisher.sum_rows.Statement.{statement}
@@ -52,7 +52,10 @@ loop-again : tie.Need-loop-again Inv-loop μ-loop
 loop-again c =
     let at = c .before .before .before .before .before in
     let a = at .before .args in
-    (omega arith, line-step row (a .k) (a .sizes .now) (a .means .now) (a .devs .now) (at .before .pre) (squaresOf (a .what)) (at .loop .g) (at .loop .t) (c .term .result) (at .loop .inv .1) (c .before .before .before .before .loop-test .taken) (c .term .ensures))
+    let h = c .before .before .before .before .loop-test .taken in (
+      omega arith,
+      line-step row (a .k) (a .sizes .now) (a .means .now) (a .devs .now) (at .before .pre) (squaresOf (a .what)) (at .loop .g) (at .loop .t) (c .term .result) (at .loop .inv .1) h (c .term .ensures),
+    )
 
 canon-requires : tie.Need-canon-requires Inv-loop μ-loop
 canon-requires c κs = search needs
@@ -61,7 +64,8 @@ returns : tie.Need-returns Inv-loop μ-loop
 returns c =
     let at = c .before .before in
     let a = at .before .args in
-    c .canon .ensures ∙ line-ends row (a .k) (a .sizes .now) (a .means .now) (a .devs .now) (at .before .pre) (squaresOf (a .what)) (at .loop .g) (at .loop .t) (at .loop .inv .1) (c .before .loop-test .left)
+    c .canon .ensures
+    ∙ line-ends row (a .k) (a .sizes .now) (a .means .now) (a .devs .now) (at .before .pre) (squaresOf (a .what)) (at .loop .g) (at .loop .t) (at .loop .inv .1) (c .before .loop-test .left)
 
 pub sum-rows-spec : {M : Type 1} → statement M
 sum-rows-spec =

@@ -1,4 +1,4 @@
--- `oneway::summary::summarize` meets its contract.
+-- Three columns are filled in one walk, each place with its group's number. Each group has 2 to 512 readings, so that it has a row.
 use Prim.Native.Nat.{_≤_, _-_, _+_}
 use mathlib.Core.Path.{_≡_, refl, sym, _∙_}
 use native.Mathlib.Omega.{arith}
@@ -7,10 +7,10 @@ use lib.ListN.{length, length-set}
 use lib.ListN.{drop, getD}
 use Rattle.base.specs.Lists.{total, cut, over}
 use Rattle.base.proofs.Cuts.{total-turn}
-use Rattle.base.proofs.Searches.{fits-here, faults, fine-here}
-use Rattle.door.specs.Checks.{groupFault}
-use Rattle.groups.proofs.Laid.{laying, row-turn, rows-done, rows-laid}
-use Rattle.oneway.specs.Summary.{sizeOf, rowMean, rowSqDev}
+use Rattle.base.proofs.Searches.{fits-here}
+use Rattle.oneway_rows.proofs.Laid.{laying, row-turn, rows-done, rows-laid}
+use Rattle.oneway.specs.Summary.{sizeOf, rowMean}
+use Rattle.oneway.specs.Inner.{rowSqDev}
 use Rattle.results.specs.Results.{noSizes, noMeans}
 use Rattle.oneway.proofs.Summaries.{column, summed}
 use Rattle.oneway.proofs.summary.summarize.Statement.{statement}
@@ -18,7 +18,7 @@ use Rattle.oneway.proofs.summary.summarize.Tie as tie
 
 abbrev Inv-loop : tie.InvT-loop
 Inv-loop readings sizes group-sizes₀ group-means₀ sq-devs₀ at₀ g₀ group-sizes group-means sq-devs at g =
-    (g ≤ length sizes) × (at + total (drop g sizes) ≡ length readings) × (faults readings sizes g at groupFault .number ≡ 0)
+    (g ≤ length sizes) × (at + total (drop g sizes) ≡ length readings)
     × (length group-sizes ≡ 16) × (length group-means ≡ 16) × (length sq-devs ≡ 16)
     × (laying readings sizes g at sizeOf group-sizes ≡ over (column sizeOf (cut sizes readings)) noSizes)
     × (laying readings sizes g at rowMean group-means ≡ over (column rowMean (cut sizes readings)) noMeans)
@@ -28,7 +28,10 @@ abbrev μ-loop : tie.MeasureT-loop
 μ-loop readings sizes group-sizes₀ group-means₀ sq-devs₀ at₀ g₀ group-sizes group-means sq-devs at g = length sizes - g
 
 -- the group ends within the readings
-ends : (c : tie.In-loop Inv-loop μ-loop) → c .before .loop .at + getD (c .before .before .before .before .args .sizes .now) (c .before .loop .g) 0 ≤ length (c .before .before .before .before .args .readings .now)
+ends : (c : tie.In-loop Inv-loop μ-loop)
+    → (let at = c .before in
+    let a = at .before .before .before .args in
+    at .loop .at + getD (a .sizes .now) (at .loop .g) 0 ≤ length (a .readings .now))
 ends c =
     let at = c .before in
     let a = at .before .before .before .args in
@@ -41,7 +44,7 @@ loop-holds c =
     let xs = start .args .readings .now in
     let ns = start .args .sizes .now in
     let k = start .pre .sizes .rows in
-    (omega arith, omega arith, start .pre .fine, refl, refl, refl, rows-laid sizeOf xs ns noSizes k, rows-laid rowMean xs ns noMeans k, rows-laid rowSqDev xs ns noMeans k)
+    (omega arith, omega (arith, start .pre .sizes .adds), refl, refl, refl, rows-laid sizeOf xs ns noSizes k, rows-laid rowMean xs ns noMeans k, rows-laid rowSqDev xs ns noMeans k)
 
 mul-end : tie.Need-mul-end Inv-loop μ-loop
 mul-end c = omega arith
@@ -105,16 +108,15 @@ loop-again c =
     let h = c .before .before .before .loop-test .taken in
     let room = at .loop .inv .1 in
     let small = start .pre .sizes .readings in
-    let fine = at .loop .inv .2 in (
+    let each = start .pre .each in (
       omega arith,
       omega (arith, total-turn ns g h),
-      fine-here xs ns g i groupFault h fine .1,
       simp length-set (omega arith),
       simp length-set (omega arith),
       simp length-set (omega arith),
-      row-turn xs ns g i h room small fine sizeOf (at .loop .group-sizes) (c .of .result) (c .of .ensures) ∙ at .loop .inv .6,
-      row-turn xs ns g i h room small fine rowMean (at .loop .group-means) (c .of .result) (c .of .ensures) ∙ at .loop .inv .7,
-      row-turn xs ns g i h room small fine rowSqDev (at .loop .sq-devs) (c .of .result) (c .of .ensures) ∙ at .loop .inv .8,
+      row-turn xs ns g i h room small each sizeOf (at .loop .group-sizes) (c .of .result) (c .of .ensures) ∙ at .loop .inv .5,
+      row-turn xs ns g i h room small each rowMean (at .loop .group-means) (c .of .result) (c .of .ensures) ∙ at .loop .inv .6,
+      row-turn xs ns g i h room small each rowSqDev (at .loop .sq-devs) (c .of .result) (c .of .ensures) ∙ at .loop .inv .7,
     )
 
 cast-t26 : tie.Need-cast-t26 Inv-loop μ-loop
@@ -130,9 +132,9 @@ returns c =
     let i = at .loop .at in
     let h = c .loop-test .left in
     summed xs ns (start .pre) _ _ _
-    (sym (rows-done xs ns g i sizeOf (at .loop .group-sizes) h) ∙ at .loop .inv .6)
-    (sym (rows-done xs ns g i rowMean (at .loop .group-means) h) ∙ at .loop .inv .7)
-    (sym (rows-done xs ns g i rowSqDev (at .loop .sq-devs) h) ∙ at .loop .inv .8)
+    (sym (rows-done xs ns g i sizeOf (at .loop .group-sizes) h) ∙ at .loop .inv .5)
+    (sym (rows-done xs ns g i rowMean (at .loop .group-means) h) ∙ at .loop .inv .6)
+    (sym (rows-done xs ns g i rowSqDev (at .loop .sq-devs) h) ∙ at .loop .inv .7)
 
 pub summarize-spec : {M : Type 1} → statement M
 summarize-spec =

@@ -1,4 +1,4 @@
--- `oneway::summary::summarize_rows` meets its contract.
+-- Three columns are filled in one walk, and the sizes are added up beside them: what was added and what is left is the sum of all.
 use Prim.Native.Nat.{_≤_, _-_, _+_}
 use mathlib.Core.Path.{_≡_, refl}
 use native.Mathlib.Omega.{arith}
@@ -8,10 +8,11 @@ use lib.ListN.{take, drop}
 use lib.Seq.{length-take-le}
 use Rattle.base.specs.Lists.{total}
 use Rattle.base.proofs.Fills.{fill, fill-starts-of, fill-step-of, fill-ends-of}
-use Rattle.oneway.specs.Summary.{sizeOf, rowMean, rowSqDev, nTotal, groupSizes, groupMeans, groupSqDevs}
+use Rattle.oneway.specs.Summary.{sizeOf, rowMean, nTotal, groupSizes, groupMeans}
+use Rattle.oneway.specs.Inner.{rowSqDev, groupSqDevs}
 use Rattle.results.specs.Results.{noSizes, noMeans}
-use Rattle.groups.specs.Soundness.{sizesIn}
-use Rattle.groups.proofs.Counted.{size-turn, size-done, unread}
+use Rattle.oneway_rows.specs.Soundness.{sizesIn}
+use Rattle.oneway_rows.proofs.Counted.{size-turn, size-done, unread}
 use Rattle.oneway.proofs.summary.summarize_rows.Statement.{statement}
 use Rattle.oneway.proofs.summary.summarize_rows.Tie as tie
 
@@ -27,8 +28,16 @@ abbrev μ-loop : tie.MeasureT-loop
 loop-holds : tie.Need-loop-holds Inv-loop μ-loop
 unfolding noSizes noMeans
 loop-holds c =
-    let a = c .args in
-    (omega arith, omega arith, refl, refl, refl, fill-starts-of sizeOf (a .k) (a .t1) noSizes (search needs), fill-starts-of rowMean (a .k) (a .t1) noMeans (search needs), fill-starts-of rowSqDev (a .k) (a .t1) noMeans (search needs))
+    let a = c .args in (
+      omega arith,
+      omega arith,
+      refl,
+      refl,
+      refl,
+      fill-starts-of sizeOf (a .k) (a .t1) noSizes (search needs),
+      fill-starts-of rowMean (a .k) (a .t1) noMeans (search needs),
+      fill-starts-of rowSqDev (a .k) (a .t1) noMeans (search needs),
+    )
 
 mul-n-total : tie.Need-mul-n-total Inv-loop μ-loop
 mul-n-total c = omega arith
@@ -108,7 +117,13 @@ returns c =
     let h = c .loop-test .left in
     let t : at .loop .n-total ≡ nTotal (take (a .k) (a .t1)) = omega (arith, size-done (a .k) (a .t1) (at .loop .g) (search needs) h) in
     let k : length (take (a .k) (a .t1)) ≡ a .k = length-take-le (a .k) (a .t1) (search needs) in
-    rw (t, fill-ends-of sizeOf (a .k) (a .t1) (at .loop .group-sizes) (at .loop .g) (at .loop .inv .5) h, fill-ends-of rowMean (a .k) (a .t1) (at .loop .group-means) (at .loop .g) (at .loop .inv .6) h, fill-ends-of rowSqDev (a .k) (a .t1) (at .loop .sq-devs) (at .loop .g) (at .loop .inv .7) h, k)
+    rw (
+      t,
+      fill-ends-of sizeOf (a .k) (a .t1) (at .loop .group-sizes) (at .loop .g) (at .loop .inv .5) h,
+      fill-ends-of rowMean (a .k) (a .t1) (at .loop .group-means) (at .loop .g) (at .loop .inv .6) h,
+      fill-ends-of rowSqDev (a .k) (a .t1) (at .loop .sq-devs) (at .loop .g) (at .loop .inv .7) h,
+      k,
+    )
 
 pub summarize-rows-spec : {M : Type 1} → statement M
 summarize-rows-spec =

@@ -1,4 +1,4 @@
--- `oneway::welch::term` meets its contract.
+-- The definition's operations, case by case; `minus` is its subtraction.
 use Prim.Native.Nat.{_-_}
 use borrow.Author.Needs.{needs}
 use Rattle.oneway.proofs.welch.term.Statement.{statement}

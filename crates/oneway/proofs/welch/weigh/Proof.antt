@@ -1,4 +1,4 @@
--- `oneway::welch::weigh` meets its contract.
+-- The definition's operations; `minus` is its subtraction.
 use Prim.Native.Nat.{_-_}
 use borrow.Author.Needs.{needs}
 use Rattle.oneway.proofs.welch.weigh.Statement.{statement}

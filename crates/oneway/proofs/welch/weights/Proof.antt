@@ -1,4 +1,4 @@
--- `oneway::welch::weights` meets its contract.
+-- Place after place is filled with the weight of its line.
 use Prim.Native.Nat.{_≤_, _-_}
 use mathlib.Core.Path.{_≡_, refl, ap}
 use native.Mathlib.Omega.{arith}
@@ -8,7 +8,7 @@ use mathlib.Core.List.{map}
 use Rattle.base.specs.Lists.{over}
 use Rattle.base.proofs.Fills.{fill, fill-starts}
 use Rattle.oneway.specs.declared.welch.Weighed.{Weighed}
-use Rattle.oneway.specs.Summary.{linesOf, row}
+use Rattle.oneway.specs.Inner.{linesOf, row}
 use Rattle.results.specs.Results.{noMeans}
 use Rattle.oneway.specs.Welch.{weightOf}
 use Rattle.oneway.proofs.Columns.{lines-taken, fill-line, lines-filled}
@@ -67,17 +67,19 @@ loop-less c = omega arith
 loop-again : tie.Need-loop-again Inv-loop μ-loop
 loop-again c =
     let at = c .before .before .before .before .before in
+    let h = c .before .before .before .before .loop-test .taken in
     let a = at .before .args in (
       omega arith,
       simp length-set (omega arith),
-      fill-line row (a .k) (a .sizes .now) (a .means .now) (a .devs .now) (at .before .pre) (weightOf (a .k)) (at .loop .out) (at .loop .g) _ (at .loop .inv .2) (c .before .before .before .before .loop-test .taken) (ap (λ (w : Weighed). w .weight) (c .weigh .ensures)),
+      fill-line row (a .k) (a .sizes .now) (a .means .now) (a .devs .now) (at .before .pre) (weightOf (a .k)) (at .loop .out) (at .loop .g) _ (at .loop .inv .2) h (ap (λ (w : Weighed). w .weight) (c .weigh .ensures)),
     )
 
 returns : tie.Need-returns Inv-loop μ-loop
 returns c =
     let at = c .before in
     let a = at .before .args in
-    rw (lines-taken row (a .k) (a .sizes .now) (a .means .now) (a .devs .now) (at .before .pre)) (lines-filled row (a .k) (a .sizes .now) (a .means .now) (a .devs .now) (at .before .pre) (weightOf (a .k)) (at .loop .out) (at .loop .g) (at .loop .inv .2) (c .loop-test .left))
+    rw (lines-taken row (a .k) (a .sizes .now) (a .means .now) (a .devs .now) (at .before .pre))
+    (lines-filled row (a .k) (a .sizes .now) (a .means .now) (a .devs .now) (at .before .pre) (weightOf (a .k)) (at .loop .out) (at .loop .g) (at .loop .inv .2) (c .loop-test .left))
 
 pub weights-spec : {M : Type 1} → statement M
 weights-spec =

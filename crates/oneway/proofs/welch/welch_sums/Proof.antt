@@ -1,4 +1,4 @@
--- `oneway::welch::welch_sums` meets its contract.
+-- Four sums over the same lines, in the definition's order.
 use Prim.Native.Nat.{_-_}
 use borrow.Author.Needs.{needs}
 use Rattle.oneway.proofs.welch.welch_sums.Statement.{statement}

@@ -1,4 +1,4 @@
--- `oneway::welch::welch_test` meets its contract.
+-- The definition's operations in its order. At most 16 groups, so k * k does not wrap.
 use Prim.Native.Nat.{_-_}
 use native.Mathlib.Omega.{arith}
 use borrow.Author.Needs.{needs}
@@ -13,7 +13,9 @@ int-to-float-df-between : tie.Need-int-to-float-df-between
 int-to-float-df-between c = search needs
 
 mul-minus : tie.Need-mul-minus
-mul-minus c = omega (arith, product-le 16 16 (c .before .before .before .pre) (c .before .before .before .pre))
+mul-minus c =
+    let few = c .before .before .before .pre in
+    omega (arith, product-le 16 16 few few)
 
 minus-requires-2 : tie.Need-minus-requires-2
 minus-requires-2 c κs = search needs
@@ -34,7 +36,12 @@ canon-requires-2 : tie.Need-canon-requires-2
 canon-requires-2 c κs = search needs
 
 returns : tie.Need-returns
-returns c = rw (c .canon2 .ensures, c .before .canon .ensures, c .before .before .before .before .minus3 .ensures, c .before .before .before .before .before .before .before .minus2 .ensures, c .before .before .before .before .before .before .before .before .before .before .minus .ensures)
+returns c =
+    let f = c .before in
+    let twoLess = f .before .before .before in
+    let squareLess = twoLess .before .before .before in
+    let oneLess = squareLess .before .before .before in
+    rw (c .canon2 .ensures, f .canon .ensures, twoLess .minus3 .ensures, squareLess .minus2 .ensures, oneLess .minus .ensures)
 
 pub welch-test-spec : {M : Type 1} → statement M
 welch-test-spec =

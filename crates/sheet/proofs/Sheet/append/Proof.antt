@@ -1,4 +1,4 @@
--- `sheet::Sheet::append` meets its contract.
+-- The places behind the group move up by one, x goes into the place that is free, the row of that group is worked out anew, and no other row changes: that is `edited`.
 use Prim.Native.Nat.{_≤_, _<_, _-_}
 use mathlib.Core.Path.{_≡_, refl}
 use native.Mathlib.Omega.{arith}
@@ -6,7 +6,6 @@ use borrow.Author.Needs.{needs}
 use lib.ListN.{length}
 use lib.ListN.{length-map}
 use Rattle.base.proofs.Order.{answers-refused}
-use Rattle.sheet.specs.declared.Sheet.{Sheet}
 use Rattle.sheet.specs.Calls.{callOf}
 use Rattle.sheet.specs.Calls.{Append, refusalOf}
 use Rattle.sheet.proofs.Found.{Found, small-ahead}
@@ -30,18 +29,33 @@ passed c = rw (c .before .before .append-refusal .ensures) at (c .if1 .left)
 known : (c : tie.Else1) → (let a = start c .args in Found (a .self) (a .group) 0)
 known c = let a = start c in append-found (a .args .self) (rows a) (a .args .group) (a .args .x) (passed c) .0
 
+-- the places behind the check: where the group begins, where the next one does, and where all readings end
+abbrev next : tie.After-ahead3 → tie.After-ahead2
+next c = c .before .before .before
+
+abbrev own : tie.After-ahead2 → tie.After-ahead
+own c = c .before
+
+abbrev fine : tie.After-ahead → tie.Else1
+fine c = c .before
+
 -- where the group lies, in the numbers that the code has
 numbers : (c : tie.After-ahead3)
-    → (let e = c .before .before .before .before .before in
-    (start e .args .group < 16) × (c .before .before .before .before .ahead .result ≤ c .before .before .before .ahead2 .result) × (c .before .before .before .ahead2 .result ≤ c .ahead3 .result) × (c .ahead3 .result < 512))
+    → (let j = next c in
+    let i = own j in
+    (start (fine i) .args .group < 16) × (i .ahead .result ≤ j .ahead2 .result) × (j .ahead2 .result ≤ c .ahead3 .result) × (c .ahead3 .result < 512))
 numbers c =
-    let e = c .before .before .before .before .before in
+    let e = fine (own (next c)) in
     let a = start e in
     let k = known e in
-    let i = c .before .before .before .before .ahead .ensures in
-    let j = c .before .before .before .ahead2 .ensures in
-    let u = c .ahead3 .ensures in
-    (omega (arith, k .open-here .group, k .open-here .counts .high), omega (arith, k .next), omega (arith, k .within), omega (arith, append-found (a .args .self) (rows a) (a .args .group) (a .args .x) (passed e) .1))
+    let i = own (next c) .ahead .ensures in
+    let j = next c .ahead2 .ensures in
+    let u = c .ahead3 .ensures in (
+      omega (arith, k .open-here .group, k .open-here .counts .high),
+      omega (arith, k .next),
+      omega (arith, k .within),
+      omega (arith, append-found (a .args .self) (rows a) (a .args .group) (a .args .x) (passed e) .1),
+    )
 
 append-refusal-requires : tie.Need-append-refusal-requires
 append-refusal-requires c κs = search needs
@@ -66,7 +80,7 @@ ahead-requires-3 : tie.Need-ahead-requires-3
 ahead-requires-3 c κs = let k = known (c .before .before .before .before) in small-ahead _ _ _ (omega arith) (k .open-here .counts)
 
 insert-requires : tie.Need-insert-requires
-insert-requires c κs = let k = numbers c in omega (arith, places (start (c .before .before .before .before .before)))
+insert-requires c κs = let k = numbers c in omega (arith, places (start (fine (own (next c)))))
 
 add-of : tie.Need-add-of
 add-of c = let k = numbers (c .before .before) in omega arith
@@ -97,11 +111,13 @@ none-requires c κs = search needs
 
 returns-2 : tie.Need-returns-2
 returns-2 c =
-    let t = c .before .before .before .before .before .before in
-    let e = t .before .before .before .before .before in
+    let p = c .before .before .before .before .before in
+    let t = p .before in
+    let i = own (next t) in
+    let e = fine i in
     let a = start e in
-    append-made (a .args .self) (rows a) (a .args .group) (places a) (t .before .before .before .before .ahead .ensures) (t .before .before .before .ahead2 .ensures) (a .args .x) (passed e) (t .ahead3 .ensures)
-    (c .before .before .before .before .before .insert .ensures) (c .before .of .ensures) (c .none .ensures)
+    append-made (a .args .self) (rows a) (a .args .group) (places a) (i .ahead .ensures) (next t .ahead2 .ensures) (a .args .x) (passed e) (t .ahead3 .ensures)
+    (p .insert .ensures) (c .before .of .ensures) (c .none .ensures)
 
 pub append-spec : {M : Type 1} → statement M
 append-spec =

@@ -1,4 +1,4 @@
--- `sheet::Sheet::load` meets its contract.
+-- Sizes that add up leave no reading out, so the readings laid over zeros are the groups one after another. The zero sheet is the sheet of no groups.
 use Prim.Native.Nat.{_-_}
 use borrow.Author.Needs.{needs}
 use lib.Ieee.{ofBits}

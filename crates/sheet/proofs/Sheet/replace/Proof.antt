@@ -1,4 +1,4 @@
--- `sheet::Sheet::replace` meets its contract.
+-- One place of the group changes and none moves, the row of that group is worked out anew, and no other row changes: that is `edited`.
 use Prim.Native.Nat.{_≤_, _<_, _-_, _+_}
 use mathlib.Core.Path.{_≡_, refl}
 use native.Mathlib.Omega.{arith}
@@ -6,7 +6,6 @@ use borrow.Author.Needs.{needs}
 use lib.ListN.{length, length-set}
 use lib.ListN.{length-map}
 use Rattle.base.proofs.Order.{answers-refused}
-use Rattle.sheet.specs.declared.Sheet.{Sheet}
 use Rattle.sheet.specs.Calls.{callOf}
 use Rattle.sheet.specs.Calls.{Replace, refusalOf}
 use Rattle.sheet.proofs.Found.{Found, small-ahead}
@@ -31,7 +30,10 @@ known : (c : tie.Else1) → (let a = start c .args in Found (a .self) (a .group)
 known c = let a = start c in replace-found (a .args .self) (rows a) (a .args .group) (a .args .place) (a .args .x) (passed c)
 
 -- where the group lies, in the numbers that the code has
-numbers : (c : tie.After-places) → (let a = start (c .before .before .before) .args in (c .before .before .ahead .result + a .place < c .before .ahead2 .result) × (c .before .ahead2 .result ≤ 512))
+numbers : (c : tie.After-places)
+    → (let j = c .before in
+    let i = j .before in
+    (i .ahead .result + start (i .before) .args .place < j .ahead2 .result) × (j .ahead2 .result ≤ 512))
 numbers c =
     let k = known (c .before .before .before) in
     let i = c .before .before .ahead .ensures in
@@ -89,9 +91,11 @@ none-requires c κs = search needs
 
 returns-2 : tie.Need-returns-2
 returns-2 c =
-    let e = c .before .before .before .before .before .before .before in
+    let j = c .before .before .before .before .before in
+    let i = j .before in
+    let e = i .before in
     let a = start e in
-    replace-made (a .args .self) (rows a) (a .args .group) (places a) (c .before .before .before .before .before .before .ahead .ensures) (c .before .before .before .before .before .ahead2 .ensures) (a .args .place) (a .args .x) (passed e) (c .before .of .ensures) (c .none .ensures)
+    replace-made (a .args .self) (rows a) (a .args .group) (places a) (i .ahead .ensures) (j .ahead2 .ensures) (a .args .place) (a .args .x) (passed e) (c .before .of .ensures) (c .none .ensures)
 
 pub replace-spec : {M : Type 1} → statement M
 replace-spec =

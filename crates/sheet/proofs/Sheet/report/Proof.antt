@@ -1,12 +1,11 @@
--- `sheet::Sheet::report` meets its contract.
+-- Sound rows say how many places are in use, and these are the readings of all groups. Of unsound rows no reading is looked at.
 use Prim.Native.Nat.{_-_}
 use mathlib.Core.Path.{_≡_, sym}
 use borrow.Author.Needs.{needs}
 use lib.ListN.{length}
 use lib.Seq.{length-take-le}
 use lib.ListN.{length-map}
-use Rattle.sheet.specs.declared.Sheet.{Sheet}
-use Rattle.sheet.proofs.Loaded.{report-fits, report-made}
+use Rattle.sheet.proofs.Reported.{report-fits, report-made}
 use Rattle.sheet.proofs.Sheet.report.Statement.{statement}
 use Rattle.sheet.proofs.Sheet.report.Tie as tie
 

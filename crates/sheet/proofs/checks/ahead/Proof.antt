@@ -1,4 +1,4 @@
--- `sheet::checks::ahead` meets its contract.
+-- What was added up and what is left is the sum of the first n sizes.
 use Prim.Native.Nat.{_≤_, _-_, _+_}
 use mathlib.Core.Path.{_≡_}
 use native.Mathlib.Omega.{arith}
@@ -6,8 +6,8 @@ use borrow.Author.Needs.{needs}
 use lib.ListN.{drop}
 use native.Mathlib.Nat.{zero-add}
 use Rattle.base.specs.Lists.{total}
-use Rattle.groups.specs.Soundness.{sizesIn}
-use Rattle.groups.proofs.Counted.{size-turn, size-done}
+use Rattle.oneway_rows.specs.Soundness.{sizesIn}
+use Rattle.oneway_rows.proofs.Counted.{size-turn, size-done}
 use Rattle.sheet.proofs.checks.ahead.Statement.{statement}
 use Rattle.sheet.proofs.checks.ahead.Tie as tie
 

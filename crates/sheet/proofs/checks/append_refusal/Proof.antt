@@ -1,4 +1,4 @@
--- `sheet::checks::append_refusal` meets its contract.
+-- An append asks what a replacement of the group's first reading asks, and then whether a place is free.
 use Prim.Native.Nat.{_-_}
 use native.Mathlib.Omega.{arith}
 use borrow.Author.Needs.{needs}

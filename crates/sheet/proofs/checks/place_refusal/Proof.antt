@@ -1,11 +1,10 @@
--- `sheet::checks::place_refusal` meets its contract.
+-- Behind check 13 a group that is not there has the size 0 in the definition, so both tests are its one.
 use Prim.Native.Nat.{_-_}
 use mathlib.Core.Path.{_∙_}
 use native.Mathlib.Omega.{arith}
 use borrow.Author.Needs.{needs}
 use Rattle.base.proofs.Order.{stops, goes-on}
-use Rattle.groups.specs.Soundness.{Sound}
-use Rattle.groups.proofs.Counted.{sound}
+use Rattle.oneway_rows.proofs.Counted.{Sound, sound}
 use Rattle.sheet.proofs.Judged.{no-group, no-place, has-place, in-range}
 use Rattle.sheet.proofs.checks.place_refusal.Statement.{statement}
 use Rattle.sheet.proofs.checks.place_refusal.Tie as tie

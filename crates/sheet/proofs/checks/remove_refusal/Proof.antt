@@ -1,9 +1,9 @@
--- `sheet::checks::remove_refusal` meets its contract.
+-- The checks stand in the definition's order; behind 13 and 14 the group is there.
 use Prim.Native.Nat.{_-_}
 use native.Mathlib.Omega.{arith}
 use borrow.Author.Needs.{needs}
 use borrow.Author.Tests.{le-leb, lt-leb}
-use Rattle.groups.proofs.Counted.{size-at}
+use Rattle.oneway_rows.proofs.Counted.{size-at}
 use Rattle.sheet.proofs.Judged.{Open, remove-stops, remove-goes-on, opened-first}
 use Rattle.sheet.proofs.checks.remove_refusal.Statement.{statement}
 use Rattle.sheet.proofs.checks.remove_refusal.Tie as tie
@@ -27,6 +27,9 @@ mul-if2 c = let o = known c in omega (arith, o .counts .high)
 
 element-copy-out-if2 : tie.Need-element-copy-out-if2
 element-copy-out-if2 c = let o = known c in omega (arith, o .counts .high)
+
+cast-if2 : tie.Need-cast-if2
+cast-if2 c = omega (arith, known c .size)
 
 new-requires : tie.Need-new-requires
 new-requires c κs = search needs
@@ -56,6 +59,7 @@ remove-refusal-spec =
     returns
     mul-if2
     element-copy-out-if2
+    cast-if2
     new-requires
     returns-2
     none-requires

@@ -1,4 +1,4 @@
--- `sheet::checks::replace_refusal` meets its contract.
+-- The checks stand in the definition's order; behind 13 and 14 the group's number is small.
 use Prim.Native.Nat.{_-_}
 use mathlib.Core.Path.{sym, _∙_}
 use native.Mathlib.Omega.{arith}

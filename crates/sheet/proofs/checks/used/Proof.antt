@@ -1,10 +1,10 @@
--- `sheet::checks::used` meets its contract.
+-- Sound rows are few and small enough to be added up.
 use Prim.Native.Nat.{_-_}
 use mathlib.Core.Path.{refl}
 use borrow.Author.Needs.{needs}
 use Rattle.base.proofs.Order.{answers-refused, answers-numbers}
 use Rattle.oneway.proofs.Summaries.{small-sound}
-use Rattle.sheet.specs.Calls.{usedIn}
+use Rattle.sheet.specs.Inner.{usedIn}
 use Rattle.sheet.proofs.checks.used.Statement.{statement}
 use Rattle.sheet.proofs.checks.used.Tie as tie
 

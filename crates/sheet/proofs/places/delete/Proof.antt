@@ -1,16 +1,17 @@
--- `sheet::places::delete` meets its contract.
+-- What is left to move down from place i on gives the whole, as long as i is before the end.
 use Prim.Native.Nat.{_<_, _-_}
 use mathlib.Core.Path.{_≡_, refl}
 use native.Mathlib.Omega.{arith}
 use lib.ListN.{length, length-set}
 use lib.Ieee.{nan, ofBits}
-use Rattle.sheet.specs.Moved.{deleted}
-use Rattle.sheet.proofs.Moves.{delete-step, delete-ends}
+use Rattle.base.specs.Inner.{deleted}
+use Rattle.float.specs.Words.{plusZero}
+use Rattle.base.proofs.Moves.{delete-step, delete-ends}
 use Rattle.sheet.proofs.places.delete.Statement.{statement}
 use Rattle.sheet.proofs.places.delete.Tie as tie
 
 abbrev Inv-loop : tie.InvT-loop
-Inv-loop places₀ at end i₀ places i = (i < end) × (length places ≡ length places₀) × (deleted i end places ≡ deleted at end places₀)
+Inv-loop places₀ at end i₀ places i = (i < end) × (length places ≡ length places₀) × (deleted i end plusZero places ≡ deleted at end plusZero places₀)
 
 abbrev μ-loop : tie.MeasureT-loop
 μ-loop places₀ at end i₀ places i = end - i
@@ -47,7 +48,7 @@ loop-again c =
     let at = c .before .before in
     let a = at .before .args in
     let l = at .loop .inv in
-    (omega arith, simp length-set (l .1), delete-step (a .end) (at .loop .i) (at .loop .places) (l .2) nan (c .before .loop-test .taken) (omega arith))
+    (omega arith, simp length-set (l .1), delete-step (a .end) (at .loop .i) (at .loop .places) plusZero (l .2) nan (c .before .loop-test .taken) (omega arith))
 
 mul-places-3 : tie.Need-mul-places-3 Inv-loop μ-loop
 mul-places-3 c = omega arith
@@ -62,7 +63,7 @@ returns : tie.Need-returns Inv-loop μ-loop
 unfolding ofBits
 returns c =
     let at = c .before in
-    delete-ends (at .before .args .end) (at .loop .i) (at .loop .places) (at .loop .inv .2) (omega arith) (omega arith)
+    delete-ends (at .before .args .end) (at .loop .i) (at .loop .places) plusZero (at .loop .inv .2) (omega arith) (omega arith)
 
 pub delete-spec : {M : Type 1} → statement M
 delete-spec =

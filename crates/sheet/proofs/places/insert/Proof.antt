@@ -1,11 +1,11 @@
--- `sheet::places::insert` meets its contract.
+-- What is left to move up from place i on, with the reading that is held, gives the whole.
 use Prim.Native.Nat.{_≤_, _-_, _+_}
 use mathlib.Core.Path.{_≡_, refl}
 use native.Mathlib.Omega.{arith}
 use lib.ListN.{length, length-set}
 use lib.Ieee.{nan}
-use Rattle.sheet.specs.Moved.{inserted}
-use Rattle.sheet.proofs.Moves.{insert-step, insert-ends}
+use Rattle.base.specs.Inner.{inserted}
+use Rattle.base.proofs.Moves.{insert-step, insert-ends}
 use Rattle.sheet.proofs.places.insert.Statement.{statement}
 use Rattle.sheet.proofs.places.insert.Tie as tie
 

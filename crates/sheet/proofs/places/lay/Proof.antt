@@ -1,4 +1,4 @@
--- `sheet::places::lay` meets its contract.
+-- Place after place is filled with its reading.
 use Prim.Native.Nat.{_≤_, _-_}
 use mathlib.Core.Path.{_≡_, refl, _∙_}
 use native.Mathlib.Omega.{arith}

@@ -1,4 +1,4 @@
--- `twoway::squares::squares` meets its contract.
+-- Balanced where the first unlike count is the first: then the plain formulas, and the scratch is wiped; else Type III, which a design that is ready always fits.
 use Prim.Native.Nat.{_-_}
 use native.Mathlib.Omega.{arith}
 use borrow.Author.Needs.{needs}
@@ -31,7 +31,9 @@ same-length-2 : tie.Need-same-length-2
 same-length-2 c = search needs
 
 returns-2 : tie.Need-returns-2
-returns-2 c = type3-way _ _ _ _ _ _ _ _ _ _ (c .before .before .before .before .before .other-count .ensures) _ (c .before .before .before .before .if1 .left) (c .before .before .before .before .before .before .before .before .before .before .before .before .before .pre) (c .before .before .type3-ss .ensures)
+returns-2 c =
+    let told = c .before .before .before .before .before in
+    type3-way _ _ _ _ _ _ _ _ _ _ (told .other-count .ensures) _ (c .before .before .before .before .if1 .left) (told .before .before .before .before .before .before .before .before .pre) (c .before .before .type3-ss .ensures)
 
 pub squares-spec : {M : Type 1} → statement M
 squares-spec =

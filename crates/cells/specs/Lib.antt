@@ -1,3 +1,0 @@
-pub mod Organized
-pub mod Sorting
-mod Worked

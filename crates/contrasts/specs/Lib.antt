@@ -1,3 +1,0 @@
-pub mod Covariance
-pub mod Contrasts
-mod Worked

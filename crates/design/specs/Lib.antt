@@ -1,5 +1,0 @@
-pub mod Cells
-pub mod Checks
-pub mod Data
-pub mod Keys
-mod Worked

@@ -1,4 +1,0 @@
-pub mod Squares
-pub mod Steps
-pub mod Calls
-pub mod Flat

@@ -1,0 +1,4 @@
+pub mod Squares
+pub mod Steps
+pub mod Calls
+pub mod Faint

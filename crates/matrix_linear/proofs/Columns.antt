@@ -1,0 +1,55 @@
+-- The ways through one column, each from what the code worked out step by step: p, x, y are the memory after a step.
+use Prim.Native.Nat.{ℕ, _+_, _*_}
+use mathlib.Core.Path.{_≡_, sym, ap, _∙_}
+use mathlib.Core.Bool.{Bool, true, false}
+use mathlib.Core.List.{List}
+use lib.Ieee.{Float, eq}
+use Rattle.base.proofs.Bounds.{then-of, else-of}
+use Rattle.float.specs.Words.{plusZero}
+use Rattle.matrix_places.specs.Places.{at, overRow}
+use Rattle.matrix_linear.specs.Rows.{swapRows, pivotRow, pivoted, skips, clearBelow}
+use Rattle.matrix_linear.specs.System.{cleared, column}
+use Rattle.matrix_linear.specs.Inverse.{clearOthers, scaled, reduced, fullColumn}
+use Rattle.matrix_linear.specs.Determinant.{turned, pivotless, swept, detTry, detColumn}
+
+-- the pivot's row has come up
+pub pivot-came : (n w col : ℕ) (m : List Float) {p : ℕ} {x : List Float} → p ≡ pivotRow n w col m → x ≡ swapRows w col p m → x ≡ pivoted n w col m
+unfolding pivoted
+pivot-came n w col m e q = rw (← e) q
+
+module _ (n w col : ℕ) (m : List Float) {p : List Float} (e : p ≡ pivoted n w col m) where
+  moved : {b : Bool} → skips p (col * w + col) ≡ b → skips (pivoted n w col m) (col * w + col) ≡ b
+  moved h = ap (λ (s : List Float). skips s (col * w + col)) (sym e) ∙ h
+
+  -- elimination: the pivot is too small, and the memory stays as the swap left it
+  pub column-skipped : skips p (col * w + col) ≡ true → p ≡ column n w col m
+  unfolding column cleared
+  column-skipped h = then-of (skips (pivoted n w col m) (col * w + col)) _ _ (moved h) e
+
+  pub column-cleared : {x : List Float} → skips p (col * w + col) ≡ false → x ≡ clearBelow n w col p → x ≡ column n w col m
+  unfolding column cleared
+  column-cleared h q = else-of (skips (pivoted n w col m) (col * w + col)) _ _ (moved h) (q ∙ ap (clearBelow n w col) e)
+
+  -- inversion, in the same way
+  pub full-skipped : skips p (col * w + col) ≡ true → p ≡ fullColumn n w col m
+  unfolding fullColumn reduced
+  full-skipped h = then-of (skips (pivoted n w col m) (col * w + col)) _ _ (moved h) e
+
+  pub full-cleared : {x y : List Float} → skips p (col * w + col) ≡ false → x ≡ overRow (col * w) (at p (col * w + col)) w p → y ≡ clearOthers n w col x → y ≡ fullColumn n w col m
+  unfolding fullColumn reduced scaled
+  full-cleared h q r = else-of (skips (pivoted n w col m) (col * w + col)) _ _ (moved h) (r ∙ ap (clearOthers n w col) (q ∙ ap (λ (s : List Float). overRow (col * w) (at s (col * w + col)) w s) e))
+
+-- the determinant, with its sign s: a column before had no pivot, or this one has none, or rows change places
+module _ (n col : ℕ) (m : List Float) (s : Float) where
+  pub det-stopped : eq s plusZero ≡ true → (m, s) ≡ detColumn n col (m, s)
+  unfolding detColumn
+  det-stopped h = rw h
+
+  module _ (h : eq s plusZero ≡ false) {p : ℕ} (e : p ≡ pivotRow n n col m) where
+    pub det-pivotless : pivotless n col p m ≡ true → (m, plusZero) ≡ detColumn n col (m, s)
+    unfolding detColumn detTry
+    det-pivotless k = rw (h, ← e, k)
+
+    pub det-swept : {x y : List Float} {t : Float} → pivotless n col p m ≡ false → x ≡ swapRows n col p m → y ≡ clearBelow n n col x → t ≡ turned p col s → (y, t) ≡ detColumn n col (m, s)
+    unfolding detColumn detTry swept
+    det-swept k q r u = rw (h, ← e, k, ← q, ← r, ← u)

@@ -1,0 +1,4 @@
+pub mod Lengths
+pub mod Steps
+pub mod Calls
+pub mod Faint

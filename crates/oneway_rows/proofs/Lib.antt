@@ -1,0 +1,4 @@
+pub mod Laid
+pub mod Counted
+pub mod Parts
+pub mod Told

@@ -1,0 +1,3 @@
+pub mod Checks
+mod Worked
+pub mod Inner

@@ -1,0 +1,4 @@
+pub mod Covariance
+pub mod Contrasts
+mod Worked
+pub mod Inner

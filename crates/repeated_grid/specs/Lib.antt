@@ -1,0 +1,3 @@
+pub mod Table
+mod Worked
+pub mod Inner

@@ -1,0 +1,5 @@
+pub mod Epsilons
+pub mod Mauchly
+pub mod Corrections
+mod Worked
+pub mod Inner

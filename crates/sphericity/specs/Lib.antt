@@ -1,4 +1,0 @@
-pub mod Epsilons
-pub mod Mauchly
-pub mod Corrections
-mod Worked

@@ -1,0 +1,4 @@
+pub mod Organized
+pub mod Starts
+mod Worked
+pub mod Inner

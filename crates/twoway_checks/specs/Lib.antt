@@ -1,0 +1,5 @@
+pub mod Cells
+pub mod Checks
+pub mod Data
+mod Worked
+pub mod Inner

@@ -1,0 +1,13 @@
+-- `twoway_means::no_table` meets its contract.
+use Prim.Native.Nat.{_-_}
+use mathlib.Core.Path.{refl}
+use Rattle.twoway_means.specs.Table.{noCells, noLevels}
+use Rattle.twoway_means.proofs.no_table.Statement.{statement}
+use Rattle.twoway_means.proofs.no_table.Tie as tie
+
+returns : tie.Need-returns
+unfolding noCells noLevels
+returns c = refl
+
+pub no-table-spec : {M : Type 1} → statement M
+no-table-spec = tie.close (tie.spec returns)

@@ -1,0 +1,7 @@
+pub mod Shape
+pub mod Coding
+pub mod Matrices
+pub mod Normal
+pub mod Wald
+pub mod Answer
+pub mod Inner

@@ -1,0 +1,88 @@
+// The sums of squares of the effects, from the coefficients and the inverse of X'X.
+use crate::half::left_half;
+use crate::normal::normal_system;
+use results::Effects;
+ghost use mathlib.Core.Path.{_≡_};
+ghost use Prim.Native.Nat.{_+_, _*_, _≤_, _<_};
+ghost use lib.ListN.{length, take};
+ghost use Rattle.base.specs.Lists.{part};
+ghost use Rattle.twoway_type3.specs.Inner.{Fitting};
+ghost use Rattle.twoway_type3.specs.Wald.{waldRow, waldSum, waldSs};
+ghost use Rattle.twoway_type3.specs.Answer.{beta, inverse, allEffects};
+
+// Where the inverse of X'X lies, behind the system, and where an effect's block lies, behind both.
+const INVERSE: usize = 1332;
+
+const BLOCK: usize = 3924;
+
+// The products of coefficient s + i with row i of the inverted block, added to ss.
+fn wald_row(beta: &[f64], cov: &[f64], p: usize, s: usize, n: usize, i: usize, ss: f64) -> f64
+    requires { ⌜ (i < n) × (s + n ≤ p) × (p ≤ 36) × (p * (p + 1) ≤ length (now beta)) × (n * (2 * n) ≤ length (now cov)) ⌝ }
+    ensures { λ r. ⌜ r ≡ waldRow p s n (now (beta .entry)) (now (cov .entry)) i ss ⌝ }
+{
+    let f = beta[(s + i) * (p + 1) + p];
+    let mut t = ss;
+    for j in 0..n {
+        t += f * cov[i * (2 * n) + n + j] * beta[(s + j) * (p + 1) + p];
+    }
+    t
+}
+
+fn wald_sum(beta: &[f64], cov: &[f64], p: usize, s: usize, n: usize) -> f64
+    requires { ⌜ (s + n ≤ p) × (p ≤ 36) × (p * (p + 1) ≤ length (now beta)) × (n * (2 * n) ≤ length (now cov)) ⌝ }
+    ensures { λ r. ⌜ r ≡ waldSum p s n (now (beta .entry)) (now (cov .entry)) ⌝ }
+{
+    let mut ss = 0.0;
+    for i in 0..n {
+        ss = wald_row(beta, cov, p, s, n, i, ss);
+    }
+    float::canon(ss)
+}
+
+// The sum of squares of the effect with the n columns from s on.
+fn wald_ss(work: &mut [f64], p: usize, s: usize, n: usize) -> f64
+    requires { ⌜ (0 < n) × (n ≤ 25) × (s + n ≤ p) × (p ≤ 36) × (length (now work) ≡ 6400) ⌝ }
+    ensures { λ r. ⌜ (r ≡ waldSs p s n (part 0 (p * (p + 1)) (now (work .entry))) (part 1332 (p * (2 * p)) (now (work .entry)))) × (take 3924 (now (work .exit)) ≡ take 3924 (now (work .entry))) ⌝ }
+{
+    left_half(work, BLOCK, n, INVERSE + (s * (2 * p) + (p + s)), 2 * p);
+    let end = BLOCK + n * (2 * n);
+    matrix_linear::matrix_inverse(&mut work[BLOCK..end], n);
+    wald_sum(&work[0..p * (p + 1)], &work[BLOCK..end], p, s, n)
+}
+
+// The coefficients, in the last column of the system, and behind it the inverse of X'X, on the right of its rows.
+fn solve(values: &[f64], factor_a: &[u32], factor_b: &[u32], a: usize, b: usize, work: &mut [f64])
+    requires { ⌜ Fitting (now values) (now «factor_a») (now «factor_b») a b × (length (now work) ≡ 6400) ⌝ }
+    ensures { λ _. ⌜ (part 0 (a * b * (a * b + 1)) (now (work .exit)) ≡ beta (now (values .entry)) (now («factor_a» .entry)) (now («factor_b» .entry)) a b) × (part 1332 (a * b * (2 * (a * b))) (now (work .exit)) ≡ inverse (now (values .entry)) (now («factor_a» .entry)) (now («factor_b» .entry)) a b) ⌝ }
+{
+    let p = a * b;
+    let z = p * (p + 1);
+    let end = INVERSE + p * (2 * p);
+    normal_system(values, factor_a, factor_b, a, b, &mut work[0..z]);
+    left_half(work, INVERSE, p, 0, p + 1);
+    matrix_linear::solve_linear_system(&mut work[0..z], p);
+    matrix_linear::matrix_inverse(&mut work[INVERSE..end], p);
+}
+
+pub fn all_effects(
+    values: &[f64],
+    factor_a: &[u32],
+    factor_b: &[u32],
+    a: usize,
+    b: usize,
+    work: &mut [f64],
+) -> Effects
+    requires { ⌜ Fitting (now values) (now «factor_a») (now «factor_b») a b × (length (now work) ≡ 6400) ⌝ }
+    ensures { λ r. ⌜ r ≡ allEffects (now (values .entry)) (now («factor_a» .entry)) (now («factor_b» .entry)) a b ⌝ }
+{
+    solve(values, factor_a, factor_b, a, b, work);
+    let p = a * b;
+    let ss_a = wald_ss(work, p, 1, a - 1);
+    let ss_b = wald_ss(work, p, a, b - 1);
+    let ss_ab = wald_ss(work, p, a + (b - 1), (a - 1) * (b - 1));
+    Effects {
+        ss_a: ss_a,
+        ss_b: ss_b,
+        ss_ab: ss_ab,
+    }
+}

@@ -1,7 +1,0 @@
-pub mod Shape
-pub mod Coding
-pub mod Matrices
-pub mod Normal
-pub mod Steps
-pub mod Wald
-pub mod Answer
