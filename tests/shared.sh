@@ -5,6 +5,13 @@
 oracle=${ORACLE:-$PWD/../shared/oracle}
 rust=$PWD/target/oracle/release
 
+# rt builds for x86-64, whatever the machine is: the C compiler whose programs can be linked with our libraries, and what reads their code. tests/x86 runs such programs.
+machine=$(uname -m)
+case $machine in
+x86_64) x86_cc=cc x86_objdump=objdump ;;
+*) x86_cc=x86_64-linux-gnu-gcc x86_objdump=x86_64-linux-gnu-objdump ;;
+esac
+
 say() { printf '%s: %s\n' "$part" "$*"; }
 fail() { say "$*"; exit 1; }
 usage() { say "$*" >&2; exit 2; }
@@ -21,6 +28,8 @@ missing() {
     for thing; do
         case $thing in
         oracle) [ -f "$oracle/Cargo.toml" ] || { absent="no oracle at $oracle (set ORACLE to its folder)"; return 0; } ;;
+        valgrind) command -v valgrind >/dev/null && [ "$machine" = x86_64 ] || { absent="no valgrind on this machine that runs programs for x86-64"; return 0; } ;;
+        x86_64-linux-gnu-*) command -v "$thing" >/dev/null || { absent="no $thing on this machine (Debian's package gcc-x86-64-linux-gnu has it)"; return 0; } ;;
         *) command -v "$thing" >/dev/null || { absent="no $thing on this machine"; return 0; } ;;
         esac
     done
@@ -43,7 +52,7 @@ build_oracle() {
 # build_c NAME..: the programs tests/compare/NAME.c, in $work.
 build_c() {
     for name; do
-        cc -O2 -o "$work/$name" "tests/compare/$name.c" -lm || fail "tests/compare/$name.c was not compiled (cc's words above)"
+        cc -O2 -ffp-contract=off -o "$work/$name" "tests/compare/$name.c" -lm || fail "tests/compare/$name.c was not compiled (cc's words above)"
     done
 }
 
