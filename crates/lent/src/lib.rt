@@ -1,12 +1,13 @@
 // Memory that the caller lends to an analysis.
 ghost use mathlib.Core.Path.{_≡_};
 ghost use Prim.Native.Nat.{min};
+ghost use Rattle.base.specs.Limits.{scratchPlaces};
 ghost use Rattle.lent.specs.Laying.{laid};
 ghost use Rattle.lent.specs.Wiping.{wiped};
 
 // The places that are used of so many.
 fn used(lent: usize) -> usize
-    ensures { λ r. ⌜ r ≡ min 6400 lent ⌝ }
+    ensures { λ r. ⌜ r ≡ min scratchPlaces lent ⌝ }
 {
     if base::SCRATCH_PLACES < lent {
         return base::SCRATCH_PLACES;

@@ -5,6 +5,7 @@ use repeated_grid::RmTable;
 use results::Corrections;
 ghost use mathlib.Core.Path.{_≡_};
 ghost use Prim.Native.Nat.{_≤_};
+ghost use Rattle.base.specs.Limits.{mostConditions, mostSubjects};
 ghost use Rattle.repeated.specs.Results.{asked, correctionsOf, answerOf};
 
 // Is sphericity worked out? Two conditions have one contrast, which is always spherical.
@@ -51,7 +52,7 @@ pub fn answer(
     t: RmTable,
     compute_sphericity: bool,
 ) -> RmAnovaResult
-    requires { ⌜ (n ≤ 64) × (k ≤ 12) ⌝ }
+    requires { ⌜ (n ≤ mostSubjects) × (k ≤ mostConditions) ⌝ }
     ensures { λ r. ⌜ r ≡ answerOf (now (readings .entry)) n k t «compute_sphericity» ⌝ }
 {
     let n_f = n as f64;

@@ -3,6 +3,7 @@ use base::Refusal;
 ghost use mathlib.Core.Path.{_≡_};
 ghost use mathlib.Core.Bool.{false};
 ghost use lib.ListN.{length};
+ghost use Rattle.base.specs.Limits.{mostSubjects};
 ghost use Rattle.base.specs.Lists.{cut};
 ghost use Rattle.base.specs.Inner.{Sized};
 ghost use Rattle.stats.specs.Sums.{hasNan};
@@ -53,7 +54,7 @@ fn subject_fault(row: &[f64], k: u64, i: u64, nans: bool) -> Refusal
 
 // The first subject that has a fault. Where no reading is a NaN, the rows are not searched for one.
 fn subjects_refusal(readings: &[f64], sizes: &[u32], k: u64) -> Refusal
-    requires { ⌜ Sized 64 (length (now readings)) (now sizes) ⌝ }
+    requires { ⌜ Sized mostSubjects (length (now readings)) (now sizes) ⌝ }
     ensures { λ r. ⌜ r ≡ subjectsRefusal k 1 (cut (now (sizes .entry)) (now (readings .entry))) ⌝ }
 {
     let nans = stats::has_nan(readings);

@@ -8,6 +8,11 @@ ghost use Rattle.repeated_contrasts.specs.Contrasts.{fits, throughContra
 use differences::contrast_rows;
 use pairs::cov_rows;
 
+// The places of the covariances of all pairs of conditions, and of the contrasts' rows.
+const COVARIANCES: usize = base::MOST_CONDITIONS * base::MOST_CONDITIONS;
+
+const CONTRASTS: usize = matrix_places::MOST_CONTRASTS * base::MOST_CONDITIONS;
+
 // Are these sizes taken: n subjects, k conditions, so many readings and means, and so many places for the answer?
 fn fits(n: usize, k: usize, readings: usize, means: usize, room: usize) -> bool
     ensures { λ r. ⌜ r ≡ fits n k readings means room ⌝ }
@@ -38,9 +43,9 @@ fn through_contrasts(readings: &[f64], means: &[f64], n: usize, k: usize, out: &
     requires { ⌜ Laid n k (now readings) (now means) ⌝ }
     ensures { λ r. ⌜ (now (out .exit), r) ≡ throughContrasts n k (now (readings .entry)) (now (means .entry)) (now (out .entry)) ⌝ }
 {
-    let mut cov = [0.0; 144];
+    let mut cov = [0.0; COVARIANCES];
     cov_rows(readings, means, n, k, &mut cov);
-    let mut c = [0.0; 132];
+    let mut c = [0.0; CONTRASTS];
     contrast_rows(k, &mut c);
     matrix_orthonormal::orthonormalize(&mut c, k - 1, k);
     matrix_product::matrix_multiply_csc(&c, &cov, k - 1, k, out)

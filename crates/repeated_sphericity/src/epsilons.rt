@@ -2,15 +2,16 @@
 ghost use mathlib.Core.Path.{_≡_};
 ghost use Prim.Native.Nat.{_-_, _≤_};
 ghost use lib.ListN.{take};
+ghost use Rattle.base.specs.Limits.{mostConditions, mostSubjects};
 ghost use Rattle.repeated_sphericity.specs.Corrections.{ggOf};
 ghost use Rattle.repeated_sphericity.specs.Epsilons.{values, squareSum, ggRaw, epsilonGg, hfRaw, usable, epsilonHf};
 
 // The eigenvalues of p rows of p places, in the first p places. The matrix is used up, so it is a copy.
-fn values(csc: [f64; 121], p: usize) -> [f64; 11]
+fn values(csc: [f64; super::PLACES], p: usize) -> [f64; matrix_places::MOST_CONTRASTS]
     ensures { λ r. ⌜ r ≡ values p csc ⌝ }
 {
     let mut m = csc;
-    let mut out = [0.0; 11];
+    let mut out = [0.0; matrix_places::MOST_CONTRASTS];
     matrix_eigen::compute_eigenvalues(&mut m, p, &mut out);
     out
 }
@@ -30,7 +31,7 @@ fn square_sum(values: &[f64]) -> f64
 
 // The squared sum over p times the sum of squares, unless that is too small or a NaN.
 fn gg_raw(values: &[f64], p: usize) -> f64
-    requires { ⌜ p ≤ 12 ⌝ }
+    requires { ⌜ p ≤ mostConditions ⌝ }
     ensures { λ r. ⌜ r ≡ ggRaw p (now (values .entry)) ⌝ }
 {
     let sum = stats::sum(values);
@@ -42,8 +43,8 @@ fn gg_raw(values: &[f64], p: usize) -> f64
 }
 
 // Greenhouse and Geisser's epsilon of the first k - 1 values. It is no NaN: the two bounds are none.
-fn epsilon_gg(values: [f64; 11], k: usize) -> f64
-    requires { ⌜ (1 ≤ k) × (k ≤ 12) ⌝ }
+fn epsilon_gg(values: [f64; matrix_places::MOST_CONTRASTS], k: usize) -> f64
+    requires { ⌜ (1 ≤ k) × (k ≤ mostConditions) ⌝ }
     ensures { λ r. ⌜ r ≡ epsilonGg k (take (k - 1) values) ⌝ }
 {
     let raw = gg_raw(&values[..k - 1], k - 1);
@@ -51,8 +52,8 @@ fn epsilon_gg(values: [f64; 11], k: usize) -> f64
 }
 
 // The epsilon of the matrix, k - 1 rows of k - 1 places.
-pub fn gg_of(csc: [f64; 121], k: usize) -> f64
-    requires { ⌜ (1 ≤ k) × (k ≤ 12) ⌝ }
+pub fn gg_of(csc: [f64; super::PLACES], k: usize) -> f64
+    requires { ⌜ (1 ≤ k) × (k ≤ mostConditions) ⌝ }
     ensures { λ r. ⌜ r ≡ ggOf k csc ⌝ }
 {
     let found = values(csc, k - 1);
@@ -61,7 +62,7 @@ pub fn gg_of(csc: [f64; 121], k: usize) -> f64
 
 // Huynh and Feldt's estimate from the epsilon e.
 fn hf_raw(n: usize, k: usize, e: f64) -> f64
-    requires { ⌜ (n ≤ 64) × (k ≤ 12) ⌝ }
+    requires { ⌜ (n ≤ mostSubjects) × (k ≤ mostConditions) ⌝ }
     ensures { λ r. ⌜ r ≡ hfRaw n k e ⌝ }
 {
     let subjects = n as f64;
@@ -78,7 +79,7 @@ fn usable(hf: f64) -> bool
 
 // Huynh and Feldt's epsilon. Where the estimate cannot be used, it is e as it came.
 pub fn epsilon_hf(n: usize, k: usize, e: f64) -> f64
-    requires { ⌜ (n ≤ 64) × (k ≤ 12) ⌝ }
+    requires { ⌜ (n ≤ mostSubjects) × (k ≤ mostConditions) ⌝ }
     ensures { λ r. ⌜ r ≡ epsilonHf n k e ⌝ }
 {
     let hf = hf_raw(n, k, e);

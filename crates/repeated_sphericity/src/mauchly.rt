@@ -2,6 +2,7 @@
 ghost use mathlib.Core.Path.{_≡_};
 ghost use Prim.Native.Nat.{_*_, _≤_};
 ghost use lib.ListN.{length};
+ghost use Rattle.matrix_places.specs.Places.{mostContrasts};
 ghost use Rattle.repeated_sphericity.specs.Corrections.{sphericityOf};
 ghost use Rattle.repeated_sphericity.specs.Mauchly.{trace, meanTrace, det, wRaw, mauchlyW, dfW};
 use results::SphericityResult;
@@ -19,15 +20,15 @@ fn trace(m: &[f64], p: usize) -> f64
 }
 
 // The mean of the diagonal.
-fn mean_trace(csc: [f64; 121], p: usize) -> f64
-    requires { ⌜ p ≤ 11 ⌝ }
+fn mean_trace(csc: [f64; super::PLACES], p: usize) -> f64
+    requires { ⌜ p ≤ mostContrasts ⌝ }
     ensures { λ r. ⌜ r ≡ meanTrace p csc ⌝ }
 {
     trace(&csc, p) / (p as f64)
 }
 
 // The determinant. The matrix is used up, so it is a copy.
-fn det(csc: [f64; 121], p: usize) -> f64
+fn det(csc: [f64; super::PLACES], p: usize) -> f64
     ensures { λ r. ⌜ r ≡ det p csc ⌝ }
 {
     let mut m = csc;
@@ -35,8 +36,8 @@ fn det(csc: [f64; 121], p: usize) -> f64
 }
 
 // The determinant over a power of the diagonal's mean, unless that is too small or a NaN.
-fn w_raw(csc: [f64; 121], p: usize) -> f64
-    requires { ⌜ p ≤ 11 ⌝ }
+fn w_raw(csc: [f64; super::PLACES], p: usize) -> f64
+    requires { ⌜ p ≤ mostContrasts ⌝ }
     ensures { λ r. ⌜ r ≡ wRaw p csc ⌝ }
 {
     let mean = mean_trace(csc, p);
@@ -46,23 +47,23 @@ fn w_raw(csc: [f64; 121], p: usize) -> f64
     1.0
 }
 
-fn mauchly_w(csc: [f64; 121], p: usize) -> f64
-    requires { ⌜ p ≤ 11 ⌝ }
+fn mauchly_w(csc: [f64; super::PLACES], p: usize) -> f64
+    requires { ⌜ p ≤ mostContrasts ⌝ }
     ensures { λ r. ⌜ r ≡ mauchlyW p csc ⌝ }
 {
     float::clamp(w_raw(csc, p), 0.0, 1.0)
 }
 
 fn df_w(p: usize) -> f64
-    requires { ⌜ p ≤ 11 ⌝ }
+    requires { ⌜ p ≤ mostContrasts ⌝ }
     ensures { λ r. ⌜ r ≡ dfW p ⌝ }
 {
     ((p * (p + 1)) as f64) / 2.0 - 1.0
 }
 
 // W and its degrees of freedom, which are a number.
-pub fn sphericity_of(csc: [f64; 121], p: usize) -> SphericityResult
-    requires { ⌜ p ≤ 11 ⌝ }
+pub fn sphericity_of(csc: [f64; super::PLACES], p: usize) -> SphericityResult
+    requires { ⌜ p ≤ mostContrasts ⌝ }
     ensures { λ r. ⌜ r ≡ sphericityOf p csc ⌝ }
 {
     SphericityResult {

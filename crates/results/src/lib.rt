@@ -22,8 +22,8 @@ pub struct OneWayAnovaResult {
     pub ms_within: f64,
     pub n_groups: usize,
     pub n_total: u32,
-    pub group_sizes: [u32; 16],
-    pub group_means: [f64; 16],
+    pub group_sizes: [u32; base::MOST_GROUPS],
+    pub group_means: [f64; base::MOST_GROUPS],
     pub has_grand_mean: bool,
     pub grand_mean: f64,
 }
@@ -46,8 +46,8 @@ pub fn refused(refusal: Refusal) -> OneWayAnovaResult
         ms_within: 0.0,
         n_groups: 0,
         n_total: 0,
-        group_sizes: [0; 16],
-        group_means: [0.0; 16],
+        group_sizes: [0; base::MOST_GROUPS],
+        group_means: [0.0; base::MOST_GROUPS],
         has_grand_mean: false,
         grand_mean: 0.0,
     }

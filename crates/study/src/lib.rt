@@ -4,6 +4,7 @@ use twoway::TwoWayAnovaResult;
 ghost use mathlib.Core.Path.{_≡_};
 ghost use Prim.Native.Nat.{_*_, _≤_};
 ghost use lib.ListN.{length};
+ghost use Rattle.base.specs.Limits.{mostLevels, mostReadings};
 ghost use Rattle.study.specs.Study.{balanceRefusal, studyRefusal, refusedStudy, componentsOf, gaugeStudy};
 
 // The components of variance, each as it comes out; meters are the levels of A, benches those of B, readings those of one cell.
@@ -51,7 +52,7 @@ fn balance_refusal(counts: &[usize]) -> Refusal
 
 // The components, from the mean squares of a table with r readings in each cell.
 fn components(t: TwoWayAnovaResult, r: usize) -> GaugeStudy
-    requires { ⌜ (t .«levels_a» ≤ 6) × ((t .«levels_b» ≤ 6) × (r ≤ 512)) ⌝ }
+    requires { ⌜ (t .«levels_a» ≤ mostLevels) × ((t .«levels_b» ≤ mostLevels) × (r ≤ mostReadings)) ⌝ }
     ensures { λ x. ⌜ x ≡ componentsOf t r ⌝ }
 {
     let a = t.levels_a;

@@ -3,6 +3,7 @@ use results::Effects;
 ghost use mathlib.Core.Path.{_≡_};
 ghost use Prim.Native.Nat.{ℕ, _+_, _*_, _≤_, _<_};
 ghost use lib.ListN.{length};
+ghost use Rattle.base.specs.Limits.{mostCells, mostLevels};
 ghost use Rattle.base.specs.Inner.{Line};
 ghost use Rattle.twoway_balanced.specs.Squares.{unlike, otherCount, meanLine, meanMargins, abRow, ssAb, effectsOf, balancedSs};
 ghost use Rattle.twoway_balanced.specs.Inner.{Fitting};
@@ -27,7 +28,7 @@ pub fn other_count(counts: &[usize]) -> usize
 
 // n means, the first of them s, each d further on, added up from 0.0.
 fn mean_line(means: &[f64], s: usize, d: usize, n: usize) -> f64
-    requires { ⌜ (length (now means) ≤ 36) × Line (length (now means)) s d n ⌝ }
+    requires { ⌜ (length (now means) ≤ mostCells) × Line (length (now means)) s d n ⌝ }
     ensures { λ r. ⌜ r ≡ meanLine (now (means .entry)) s d n ⌝ }
 {
     let mut t = 0.0;
@@ -39,7 +40,7 @@ fn mean_line(means: &[f64], s: usize, d: usize, n: usize) -> f64
 
 // The mean of the n cells' means at each of m levels: the levels' first cells lie e apart, and a level's cells d apart.
 fn mean_margins(means: &[f64], m: usize, e: usize, d: usize, n: usize) -> [f64; base::MOST_LEVELS]
-    requires { ⌜ (length (now means) ≤ 36) × ((m ≤ 6) × ((n ≤ 6) × ((m * e ≤ 36) × ((i : ℕ) → i < m → Line (length (now means)) (i * e) d n)))) ⌝ }
+    requires { ⌜ (length (now means) ≤ mostCells) × ((m ≤ mostLevels) × ((n ≤ mostLevels) × ((m * e ≤ mostCells) × ((i : ℕ) → i < m → Line (length (now means)) (i * e) d n)))) ⌝ }
     ensures { λ r. ⌜ r ≡ meanMargins (now (means .entry)) m e d n ⌝ }
 {
     let mut out = [0.0; base::MOST_LEVELS];
@@ -60,7 +61,7 @@ fn ab_row(
     s: usize,
     b: usize,
 ) -> f64
-    requires { ⌜ (b ≤ 6) × ((s + b ≤ length (now means)) × (length (now means) ≤ 36)) ⌝ }
+    requires { ⌜ (b ≤ mostLevels) × ((s + b ≤ length (now means)) × (length (now means) ≤ mostCells)) ⌝ }
     ensures { λ x. ⌜ x ≡ abRow (now (means .entry)) «mean_a» (now («means_b» .entry)) «grand_mean» r s b t ⌝ }
 {
     let mut u = t;
@@ -80,7 +81,7 @@ fn ss_ab(
     a: usize,
     b: usize,
 ) -> f64
-    requires { ⌜ (a ≤ 6) × ((b ≤ 6) × ((a * b ≤ length (now means)) × (length (now means) ≤ 36))) ⌝ }
+    requires { ⌜ (a ≤ mostLevels) × ((b ≤ mostLevels) × ((a * b ≤ length (now means)) × (length (now means) ≤ mostCells))) ⌝ }
     ensures { λ x. ⌜ x ≡ ssAb (now (means .entry)) (now («means_a» .entry)) (now («means_b» .entry)) «grand_mean» r a b ⌝ }
 {
     let mut t = 0.0;

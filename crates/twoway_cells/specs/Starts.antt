@@ -13,7 +13,7 @@ sums at [] = at ∷ []
 sums at (n ∷ ns) = at ∷ sums (at + n) ns
 
 unfoldable pub noStarts : List ℕ
-noStarts = replicate 37 0
+noStarts = replicate (mostCells + 1) 0
 
 -- zeros where there are over 36 cells, or over 512 readings in all
 unfoldable pub startsOf : List ℕ → List ℕ

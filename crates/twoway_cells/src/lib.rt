@@ -6,12 +6,15 @@ ghost use mathlib.Core.Path.{_≡_};
 ghost use Rattle.twoway_cells.specs.Organized.{organizeTwoWayData};
 ghost use Rattle.twoway_cells.specs.Starts.{startsOf};
 
+// A place for the start of each cell, and one for where all end.
+pub const STARTS: usize = base::MOST_CELLS + 1;
+
 // Where each cell begins, if the cells lie one after another and have as many readings as `counts` says; behind the last, where all end. Nothing but zeros
 // where there are over 36 cells, or over 512 readings in all.
-pub fn starts_of(counts: &[usize]) -> [usize; 37]
+pub fn starts_of(counts: &[usize]) -> [usize; STARTS]
     ensures { λ r. ⌜ r ≡ startsOf (now (counts .entry)) ⌝ }
 {
-    let none = [0usize; 37];
+    let none = [0usize; STARTS];
     let mut starts = none;
     if base::MOST_CELLS < counts.len() {
         return none;

@@ -4,6 +4,7 @@ use base::Refusal;
 ghost use mathlib.Core.Path.{_≡_};
 ghost use Prim.Native.Nat.{_<_, _≤_, _*_, max};
 ghost use lib.ListN.{length, take};
+ghost use Rattle.base.specs.Limits.{mostCells, mostLevels};
 ghost use Rattle.twoway_checks.specs.Checks.{largest, shapeRefusal, levelsRefusal, emptyRefusal, cellsRefusal};
 ghost use Rattle.twoway_checks.specs.Inner.{Leveled, countedData};
 ghost use Rattle.twoway_checks.specs.Data.{refusedData};
@@ -76,7 +77,7 @@ pub fn levels_refusal(a: u64, b: u64) -> Refusal
 
 // The first of so many cells that has no reading.
 fn empty_refusal(counts: &[usize; base::MOST_CELLS], cells: usize, levels_b: usize) -> Refusal
-    requires { ⌜ (length (now counts) ≡ 36) × (cells ≤ 36) × (0 < «levels_b») ⌝ }
+    requires { ⌜ (length (now counts) ≡ mostCells) × (cells ≤ mostCells) × (0 < «levels_b») ⌝ }
     ensures { λ r. ⌜ r ≡ emptyRefusal «levels_b» 0 (take cells (now (counts .entry))) ⌝ }
 {
     let mut c = 0;
@@ -96,7 +97,7 @@ fn cells_refusal(
     levels_b: usize,
     n: usize,
 ) -> Refusal
-    requires { ⌜ (length (now counts) ≡ 36) × («levels_a» ≤ 6) × (0 < «levels_b») × («levels_b» ≤ 6) ⌝ }
+    requires { ⌜ (length (now counts) ≡ mostCells) × («levels_a» ≤ mostLevels) × (0 < «levels_b») × («levels_b» ≤ mostLevels) ⌝ }
     ensures { λ r. ⌜ r ≡ cellsRefusal «levels_a» «levels_b» n (take («levels_a» * «levels_b») (now (counts .entry))) ⌝ }
 {
     let cells = levels_a * levels_b;

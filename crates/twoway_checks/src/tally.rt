@@ -1,11 +1,12 @@
 // How many readings each cell has.
 ghost use mathlib.Core.Path.{_≡_};
 ghost use Prim.Native.Nat.{_+_, _*_, _<_, _≤_};
+ghost use Rattle.base.specs.Limits.{mostLevels};
 ghost use Rattle.twoway_checks.specs.Inner.{Coded, keys, tally};
 
 // The number of a reading's cell: cells are counted by A, then B.
 pub fn key(a: u32, b: u32, levels_b: usize) -> usize
-    requires { ⌜ (a < 6) × (b < 6) × («levels_b» ≤ 6) ⌝ }
+    requires { ⌜ (a < mostLevels) × (b < mostLevels) × («levels_b» ≤ mostLevels) ⌝ }
     ensures { λ r. ⌜ r ≡ a * «levels_b» + b ⌝ }
 {
     (a as usize) * levels_b + (b as usize)

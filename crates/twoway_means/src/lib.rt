@@ -4,6 +4,7 @@ ghost use mathlib.Core.List.{foldl};
 ghost use Prim.Native.Nat.{ℕ, _+_, _*_, _≤_, _<_};
 ghost use lib.ListN.{length, take};
 ghost use lib.Dec.{leb};
+ghost use Rattle.base.specs.Limits.{mostCells, mostLevels, mostReadings};
 ghost use Rattle.base.specs.Inner.{Line};
 ghost use Rattle.base.specs.Lists.{cut, total};
 ghost use Rattle.stats.specs.Sums.{addBy, sqDist};
@@ -26,7 +27,7 @@ pub struct CellTable {
 
 // Whether the first k counts come to no more than n. No sum is formed that could wrap.
 fn counts_within(counts: &[usize], k: usize, n: usize) -> bool
-    requires { ⌜ (k ≤ 36) × (k ≤ length (now counts)) ⌝ }
+    requires { ⌜ (k ≤ mostCells) × (k ≤ length (now counts)) ⌝ }
     ensures { λ r. ⌜ r ≡ leb (total (take k (now (counts .entry)))) n ⌝ }
 {
     let mut left = n;
@@ -45,7 +46,7 @@ fn counts_within(counts: &[usize], k: usize, n: usize) -> bool
 fn cell<'a>(
     readings: &'a [f64],
     counts: &[usize],
-    starts: &[usize; 37],
+    starts: &[usize; twoway_cells::STARTS],
     k: usize,
     c: usize,
 ) -> &'a [f64]
@@ -76,7 +77,7 @@ fn tally_cell(t: Tally, cell: &[f64]) -> Tally
 fn tally_line(
     readings: &[f64],
     counts: &[usize],
-    starts: &[usize; 37],
+    starts: &[usize; twoway_cells::STARTS],
     k: usize,
     s: usize,
     d: usize,
@@ -99,14 +100,14 @@ fn tally_line(
 fn margins(
     readings: &[f64],
     counts: &[usize],
-    starts: &[usize; 37],
+    starts: &[usize; twoway_cells::STARTS],
     k: usize,
     m: usize,
     e: usize,
     d: usize,
     n: usize,
 ) -> [f64; base::MOST_LEVELS]
-    requires { ⌜ Laid k (now counts) (now starts) (now readings) × ((m ≤ 6) × ((m * e ≤ 36) × ((i : ℕ) → i < m → Line k (i * e) d n))) ⌝ }
+    requires { ⌜ Laid k (now counts) (now starts) (now readings) × ((m ≤ mostLevels) × ((m * e ≤ mostCells) × ((i : ℕ) → i < m → Line k (i * e) d n))) ⌝ }
     ensures { λ r. ⌜ r ≡ margins (cut (take k (now (counts .entry))) (now (readings .entry))) m e d n ⌝ }
 {
     let mut out = [0.0; base::MOST_LEVELS];
@@ -120,10 +121,10 @@ fn margins(
 fn cell_means(
     readings: &[f64],
     counts: &[usize],
-    starts: &[usize; 37],
+    starts: &[usize; twoway_cells::STARTS],
     k: usize,
 ) -> [f64; base::MOST_CELLS]
-    requires { ⌜ Laid k (now counts) (now starts) (now readings) × (length (now readings) ≤ 512) ⌝ }
+    requires { ⌜ Laid k (now counts) (now starts) (now readings) × (length (now readings) ≤ mostReadings) ⌝ }
     ensures { λ r. ⌜ r ≡ cellMeans (cut (take k (now (counts .entry))) (now (readings .entry))) k ⌝ }
 {
     let mut out = [0.0; base::MOST_CELLS];
@@ -151,7 +152,7 @@ fn add_squares(t: f64, cell: &[f64], mean: f64) -> f64
 fn ss_error(
     readings: &[f64],
     counts: &[usize],
-    starts: &[usize; 37],
+    starts: &[usize; twoway_cells::STARTS],
     means: &[f64; base::MOST_CELLS],
     k: usize,
 ) -> f64

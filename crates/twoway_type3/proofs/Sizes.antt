@@ -3,15 +3,16 @@ use Prim.Native.Nat.{ℕ, _+_, _-_, _*_, _<_, _≤_}
 use mathlib.Core.Path.{_≡_}
 use native.Mathlib.Omega.{arith}
 use native.Mathlib.Nat.{add-mul, mul-add, mul-le-mul}
+use Rattle.base.specs.Limits.{mostCells, mostLevels}
 use Rattle.base.proofs.Bounds.{row-end, product-le}
 
-pub cells-most : (a b : ℕ) → a ≤ 6 → b ≤ 6 → a * b ≤ 36
-cells-most a b h k = product-le 6 6 h k
+pub cells-most : (a b : ℕ) → a ≤ mostLevels → b ≤ mostLevels → a * b ≤ mostCells
+cells-most a b h k = product-le mostLevels mostLevels h k
 
-pub system-most : (p : ℕ) → p ≤ 36 → p * (p + 1) ≤ 1332
+pub system-most : (p : ℕ) → p ≤ mostCells → p * (p + 1) ≤ 1332
 system-most p h = product-le 36 37 {x = p} {y = p + 1} h (omega arith)
 
-pub inverse-most : (p : ℕ) → p ≤ 36 → p * (2 * p) ≤ 2592
+pub inverse-most : (p : ℕ) → p ≤ mostCells → p * (2 * p) ≤ 2592
 inverse-most p h = product-le 36 72 {x = p} {y = 2 * p} h (omega arith)
 
 pub block-most : (n : ℕ) → n ≤ 25 → n * (2 * n) ≤ 1250
@@ -35,7 +36,10 @@ pub cells-some : (a b : ℕ) → 2 ≤ a → 2 ≤ b → 0 < a * b
 cells-some a b h k = let e : 1 * 1 ≤ a * b = mul-le-mul {n₁ = 1} {m₁ = 1} {n₂ = a} {m₂ = b} (omega arith) (omega arith) in omega (arith, e)
 
 -- the columns of the interaction: some, not many, and as many as are left behind those of the factors
-pub columns : (a b : ℕ) → 2 ≤ a → a ≤ 6 → 2 ≤ b → b ≤ 6 → (0 < (a - 1) * (b - 1)) × ((a - 1) * (b - 1) ≤ 25) × (a + (b - 1) + (a - 1) * (b - 1) ≡ a * b)
+abbrev pub Interaction : ℕ → ℕ → Type 0
+Interaction a b = (0 < (a - 1) * (b - 1)) × ((a - 1) * (b - 1) ≤ 25) × (a + (b - 1) + (a - 1) * (b - 1) ≡ a * b)
+
+pub columns : (a b : ℕ) → 2 ≤ a → a ≤ mostLevels → 2 ≤ b → b ≤ mostLevels → Interaction a b
 columns a b h k l m = (
   (let e : 1 * 1 ≤ (a - 1) * (b - 1) = mul-le-mul {n₁ = 1} {m₁ = 1} {n₂ = a - 1} {m₂ = b - 1} (omega arith) (omega arith) in omega (arith, e)),
   product-le 5 5 {x = a - 1} {y = b - 1} (omega arith) (omega arith),

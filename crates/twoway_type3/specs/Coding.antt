@@ -1,10 +1,11 @@
--- Effect coding: the row of the design matrix that a reading has, in 37 places, of which a * b are used, and its value behind them.
+-- Effect coding: the row of the design matrix that a reading has. There is a place for each cell that there may be and one more; a * b of them are used, and the reading's value stands behind these.
 use Prim.Native.Nat.{ℕ, _+_, _-_, _*_}
 use mathlib.Core.Bool.{cond}
 use mathlib.Core.List.{List}
 use lib.Dec.{eqb}
 use lib.ListN.{set}
 use lib.Ieee.{Float, neg}
+use Rattle.base.specs.Limits.{mostCells}
 use Rattle.base.specs.Loop.{loop}
 use Rattle.float.specs.Words.{_⊗_, plusZero, one}
 use Rattle.matrix_linear.specs.Rows.{at}
@@ -36,4 +37,4 @@ products a b x = loop 0 (a - 1) (productsOf a b) x
 
 -- the row of codes u and v: 1, the columns of A, those of B, the products; and behind them the value y
 unfoldable pub designRow : ℕ → ℕ → ℕ → ℕ → Float → List Float
-designRow a b u v y = set (products a b (codesFrom a b v (codesFrom 1 a u (set (zeros 37) 0 one)))) (a * b) y
+designRow a b u v y = set (products a b (codesFrom a b v (codesFrom 1 a u (set (zeros (mostCells + 1)) 0 one)))) (a * b) y

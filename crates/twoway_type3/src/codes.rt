@@ -2,7 +2,11 @@
 ghost use mathlib.Core.Path.{_≡_};
 ghost use Prim.Native.Nat.{_+_, _-_, _≤_, _<_};
 ghost use lib.ListN.{length};
+ghost use Rattle.base.specs.Limits.{mostCells, mostLevels};
 ghost use Rattle.twoway_type3.specs.Coding.{effectCode, codesFrom, productsOf, products, designRow};
+
+// A column for each cell that there may be, and the reading.
+const ROW: usize = base::MOST_CELLS + 1;
 
 // Column k of a factor: 1, or -1 at the last level, or 0.
 fn effect_code(levels: usize, u: usize, k: usize) -> f64
@@ -20,7 +24,7 @@ fn effect_code(levels: usize, u: usize, k: usize) -> f64
 
 // All columns of a factor, from place p on.
 fn codes_from(x: &mut [f64], p: usize, levels: usize, u: usize)
-    requires { ⌜ (2 ≤ levels) × (levels ≤ 6) × (p ≤ 6) × (length (now x) ≡ 37) ⌝ }
+    requires { ⌜ (2 ≤ levels) × (levels ≤ mostLevels) × (p ≤ mostLevels) × (length (now x) ≡ mostCells + 1) ⌝ }
     ensures { λ _. ⌜ now (x .exit) ≡ codesFrom p levels u (now (x .entry)) ⌝ }
 {
     for k in 0..levels - 1 {
@@ -30,7 +34,7 @@ fn codes_from(x: &mut [f64], p: usize, levels: usize, u: usize)
 
 // The products of one column of A and the columns of B.
 fn products_of(x: &mut [f64], a: usize, b: usize, ka: usize)
-    requires { ⌜ (a ≤ 6) × (2 ≤ b) × (b ≤ 6) × (ka < a - 1) × (length (now x) ≡ 37) ⌝ }
+    requires { ⌜ (a ≤ mostLevels) × (2 ≤ b) × (b ≤ mostLevels) × (ka < a - 1) × (length (now x) ≡ mostCells + 1) ⌝ }
     ensures { λ _. ⌜ now (x .exit) ≡ productsOf a b ka (now (x .entry)) ⌝ }
 {
     for kb in 0..b - 1 {
@@ -39,7 +43,7 @@ fn products_of(x: &mut [f64], a: usize, b: usize, ka: usize)
 }
 
 fn products(x: &mut [f64], a: usize, b: usize)
-    requires { ⌜ (2 ≤ a) × (a ≤ 6) × (2 ≤ b) × (b ≤ 6) × (length (now x) ≡ 37) ⌝ }
+    requires { ⌜ (2 ≤ a) × (a ≤ mostLevels) × (2 ≤ b) × (b ≤ mostLevels) × (length (now x) ≡ mostCells + 1) ⌝ }
     ensures { λ _. ⌜ now (x .exit) ≡ products a b (now (x .entry)) ⌝ }
 {
     for ka in 0..a - 1 {
@@ -48,11 +52,11 @@ fn products(x: &mut [f64], a: usize, b: usize)
 }
 
 // The reading's row, and its value behind it.
-pub fn design_row(a: usize, b: usize, u: u32, v: u32, y: f64) -> [f64; 37]
-    requires { ⌜ (2 ≤ a) × (a ≤ 6) × (2 ≤ b) × (b ≤ 6) ⌝ }
+pub fn design_row(a: usize, b: usize, u: u32, v: u32, y: f64) -> [f64; ROW]
+    requires { ⌜ (2 ≤ a) × (a ≤ mostLevels) × (2 ≤ b) × (b ≤ mostLevels) ⌝ }
     ensures { λ r. ⌜ r ≡ designRow a b u v y ⌝ }
 {
-    let mut x = [0.0; 37];
+    let mut x = [0.0; ROW];
     x[0] = 1.0;
     codes_from(&mut x, 1, a, u as usize);
     codes_from(&mut x, a, b, v as usize);

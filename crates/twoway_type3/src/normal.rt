@@ -3,6 +3,7 @@ use crate::codes::design_row;
 ghost use mathlib.Core.Path.{_≡_};
 ghost use Prim.Native.Nat.{_+_, _*_, _≤_, _<_};
 ghost use lib.ListN.{length};
+ghost use Rattle.base.specs.Limits.{mostLevels};
 ghost use Rattle.twoway_type3.specs.Inner.{Fitting, addRow, addProducts};
 ghost use Rattle.twoway_type3.specs.Coding.{designRow};
 ghost use Rattle.twoway_type3.specs.Normal.{normalSystem};
@@ -29,7 +30,7 @@ fn add_products(x: &[f64], n: usize, w: usize, m: &mut [f64])
 }
 
 fn add_reading(a: usize, b: usize, u: u32, v: u32, y: f64, m: &mut [f64])
-    requires { ⌜ (2 ≤ a) × (a ≤ 6) × (2 ≤ b) × (b ≤ 6) × (a * b * (a * b + 1) ≤ length (now m)) ⌝ }
+    requires { ⌜ (2 ≤ a) × (a ≤ mostLevels) × (2 ≤ b) × (b ≤ mostLevels) × (a * b * (a * b + 1) ≤ length (now m)) ⌝ }
     ensures { λ _. ⌜ now (m .exit) ≡ addProducts (a * b) (a * b + 1) (designRow a b u v y) (now (m .entry)) ⌝ }
 {
     let x = design_row(a, b, u, v, y);

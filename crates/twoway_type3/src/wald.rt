@@ -5,6 +5,7 @@ use results::Effects;
 ghost use mathlib.Core.Path.{_≡_};
 ghost use Prim.Native.Nat.{_+_, _*_, _≤_, _<_};
 ghost use lib.ListN.{length, take};
+ghost use Rattle.base.specs.Limits.{mostCells, scratchPlaces};
 ghost use Rattle.base.specs.Lists.{part};
 ghost use Rattle.twoway_type3.specs.Inner.{Fitting};
 ghost use Rattle.twoway_type3.specs.Wald.{waldRow, waldSum, waldSs};
@@ -17,7 +18,7 @@ const BLOCK: usize = 3924;
 
 // The products of coefficient s + i with row i of the inverted block, added to ss.
 fn wald_row(beta: &[f64], cov: &[f64], p: usize, s: usize, n: usize, i: usize, ss: f64) -> f64
-    requires { ⌜ (i < n) × (s + n ≤ p) × (p ≤ 36) × (p * (p + 1) ≤ length (now beta)) × (n * (2 * n) ≤ length (now cov)) ⌝ }
+    requires { ⌜ (i < n) × (s + n ≤ p) × (p ≤ mostCells) × (p * (p + 1) ≤ length (now beta)) × (n * (2 * n) ≤ length (now cov)) ⌝ }
     ensures { λ r. ⌜ r ≡ waldRow p s n (now (beta .entry)) (now (cov .entry)) i ss ⌝ }
 {
     let f = beta[(s + i) * (p + 1) + p];
@@ -29,7 +30,7 @@ fn wald_row(beta: &[f64], cov: &[f64], p: usize, s: usize, n: usize, i: usize, s
 }
 
 fn wald_sum(beta: &[f64], cov: &[f64], p: usize, s: usize, n: usize) -> f64
-    requires { ⌜ (s + n ≤ p) × (p ≤ 36) × (p * (p + 1) ≤ length (now beta)) × (n * (2 * n) ≤ length (now cov)) ⌝ }
+    requires { ⌜ (s + n ≤ p) × (p ≤ mostCells) × (p * (p + 1) ≤ length (now beta)) × (n * (2 * n) ≤ length (now cov)) ⌝ }
     ensures { λ r. ⌜ r ≡ waldSum p s n (now (beta .entry)) (now (cov .entry)) ⌝ }
 {
     let mut ss = 0.0;
@@ -41,7 +42,7 @@ fn wald_sum(beta: &[f64], cov: &[f64], p: usize, s: usize, n: usize) -> f64
 
 // The sum of squares of the effect with the n columns from s on.
 fn wald_ss(work: &mut [f64], p: usize, s: usize, n: usize) -> f64
-    requires { ⌜ (0 < n) × (n ≤ 25) × (s + n ≤ p) × (p ≤ 36) × (length (now work) ≡ 6400) ⌝ }
+    requires { ⌜ (0 < n) × (n ≤ 25) × (s + n ≤ p) × (p ≤ mostCells) × (length (now work) ≡ scratchPlaces) ⌝ }
     ensures { λ r. ⌜ (r ≡ waldSs p s n (part 0 (p * (p + 1)) (now (work .entry))) (part 1332 (p * (2 * p)) (now (work .entry)))) × (take 3924 (now (work .exit)) ≡ take 3924 (now (work .entry))) ⌝ }
 {
     left_half(work, BLOCK, n, INVERSE + (s * (2 * p) + (p + s)), 2 * p);
@@ -52,7 +53,7 @@ fn wald_ss(work: &mut [f64], p: usize, s: usize, n: usize) -> f64
 
 // The coefficients, in the last column of the system, and behind it the inverse of X'X, on the right of its rows.
 fn solve(values: &[f64], factor_a: &[u32], factor_b: &[u32], a: usize, b: usize, work: &mut [f64])
-    requires { ⌜ Fitting (now values) (now «factor_a») (now «factor_b») a b × (length (now work) ≡ 6400) ⌝ }
+    requires { ⌜ Fitting (now values) (now «factor_a») (now «factor_b») a b × (length (now work) ≡ scratchPlaces) ⌝ }
     ensures { λ _. ⌜ (part 0 (a * b * (a * b + 1)) (now (work .exit)) ≡ beta (now (values .entry)) (now («factor_a» .entry)) (now («factor_b» .entry)) a b) × (part 1332 (a * b * (2 * (a * b))) (now (work .exit)) ≡ inverse (now (values .entry)) (now («factor_a» .entry)) (now («factor_b» .entry)) a b) ⌝ }
 {
     let p = a * b;
@@ -72,7 +73,7 @@ pub fn all_effects(
     b: usize,
     work: &mut [f64],
 ) -> Effects
-    requires { ⌜ Fitting (now values) (now «factor_a») (now «factor_b») a b × (length (now work) ≡ 6400) ⌝ }
+    requires { ⌜ Fitting (now values) (now «factor_a») (now «factor_b») a b × (length (now work) ≡ scratchPlaces) ⌝ }
     ensures { λ r. ⌜ r ≡ allEffects (now (values .entry)) (now («factor_a» .entry)) (now («factor_b» .entry)) a b ⌝ }
 {
     solve(values, factor_a, factor_b, a, b, work);
