@@ -35,7 +35,10 @@ mul-canon : tie.Need-mul-canon Inv-loop μ-loop
 mul-canon c = omega arith
 
 array-read-canon : tie.Need-array-read-canon Inv-loop μ-loop
-array-read-canon c = let s = c .before .before in omega (arith, ap length (s .condition-sums .ensures), sums-length (s .before .before .args .readings .now) (s .before .before .args .n) (s .before .before .args .k), s .before .before .pre .conditions)
+array-read-canon c =
+    let at-sums = c .before .before in
+    let start = at-sums .before .before in
+    omega (arith, ap length (at-sums .condition-sums .ensures), sums-length (start .args .readings .now) (start .args .n) (start .args .k), start .pre .conditions)
 
 int-to-float-canon : tie.Need-int-to-float-canon Inv-loop μ-loop
 int-to-float-canon c = small-count _ (omega (arith, c .before .before .before .before .before .pre .subjects))
@@ -57,7 +60,14 @@ loop-less c = omega arith
 
 loop-again : tie.Need-loop-again Inv-loop μ-loop
 unfolding conditionMeans listed
-loop-again c = let at = c .before .before .before in let t = c .before .before .loop-test .taken in let s = at .before in let p = s .before .before in (omega (arith, t), (rw length-set (at .loop .inv .1 .0), step _ _ _ _ _ _ (at .loop .inv .1 .1) t (ap (λ (x : Float). set (at .loop .out) (at .loop .j) x) (c .canon .ensures ∙ ap (λ (x : Float). x ⊘ count (p .args .n)) (ap (λ (m : List Float). getD m (at .loop .j) nan) (s .condition-sums .ensures) ∙ column-sum _ _ _ (p .pre) _ t)))))
+loop-again c =
+    let at = c .before .before .before in
+    let at-sums = at .before in
+    let start = at-sums .before .before in
+    let t = c .before .before .loop-test .taken in
+    let sum = ap (λ (m : List Float). getD m (at .loop .j) nan) (at-sums .condition-sums .ensures) ∙ column-sum _ _ _ (start .pre) _ t in
+    let mean = c .canon .ensures ∙ ap (λ (x : Float). x ⊘ count (start .args .n)) sum in
+    (omega (arith, t), (rw length-set (at .loop .inv .1 .0), step _ _ _ _ _ _ (at .loop .inv .1 .1) t (ap (λ (x : Float). set (at .loop .out) (at .loop .j) x) mean)))
 
 returns : tie.Need-returns Inv-loop μ-loop
 returns c = ends _ _ _ _ _ (c .before .loop .inv .1 .1) (c .loop-test .left)

@@ -61,7 +61,11 @@ loop-less : tie.Need-loop-less Inv-loop μ-loop
 loop-less c = omega arith
 
 loop-again : tie.Need-loop-again Inv-loop μ-loop
-loop-again c = let at = c .before .before .before .before .before in let q = c .before .add-row .ensures ∙ ap (λ (row : List Float). rowAdded row (at .loop .sums)) (row-part _ _ _) in (omega arith, (rw q (added-length _ _ ∙ at .loop .inv .1 .0), step _ _ _ _ _ _ (at .loop .inv .1 .1) (c .before .before .before .before .loop-test .taken) q))
+loop-again c =
+    let at-test = c .before .before .before .before in
+    let at = at-test .before in
+    let added = c .before .add-row .ensures ∙ ap (λ (row : List Float). rowAdded row (at .loop .sums)) (row-part _ _ _) in
+    (omega arith, (rw added (added-length _ _ ∙ at .loop .inv .1 .0), step _ _ _ _ _ _ (at .loop .inv .1 .1) (at-test .loop-test .taken) added))
 
 returns : tie.Need-returns Inv-loop μ-loop
 returns c = ends _ _ _ _ _ (c .before .loop .inv .1 .1) (c .loop-test .left)
