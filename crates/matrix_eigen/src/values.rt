@@ -8,16 +8,13 @@ use super::qr::qr_columns;
 
 const ROUNDS: usize = 100;
 
-// The places of the largest matrix that is taken.
-const PLACES: usize = matrix_places::MOST_CONTRASTS * matrix_places::MOST_CONTRASTS;
-
 // The matrix becomes R Q.
 pub fn round(m: &mut [f64], n: usize)
     requires { ⌜ (0 < n) × ((n ≤ mostContrasts) × (n * n ≤ length (now m))) ⌝ }
     ensures { λ _. ⌜ now (m .exit) ≡ round n (now (m .entry)) ⌝ }
 {
-    let mut q = [0.0; PLACES];
-    let mut r = [0.0; PLACES];
+    let mut q = [0.0; matrix_places::SQUARE];
+    let mut r = [0.0; matrix_places::SQUARE];
     qr_columns(m, n, &mut q, &mut r);
     matrix_product::product(&r, &q, 1, n, n, n, n, m);
 }

@@ -6,6 +6,9 @@ ghost use Rattle.matrix_places.specs.Places.{refuses, lacks, dotIn, shor
 // The most contrasts: one less than the most conditions.
 pub const MOST_CONTRASTS: usize = base::MOST_CONDITIONS - 1;
 
+// The places of a square matrix of so many rows.
+pub const SQUARE: usize = MOST_CONTRASTS * MOST_CONTRASTS;
+
 // A pivot below it is too small to divide by.
 pub const TINY: f64 = 1e-14;
 

@@ -7,7 +7,7 @@ ghost use Rattle.repeated_sphericity.specs.Corrections.{ggOf};
 ghost use Rattle.repeated_sphericity.specs.Epsilons.{values, squareSum, ggRaw, epsilonGg, hfRaw, usable, epsilonHf};
 
 // The eigenvalues of p rows of p places, in the first p places. The matrix is used up, so it is a copy.
-fn values(csc: [f64; super::PLACES], p: usize) -> [f64; matrix_places::MOST_CONTRASTS]
+fn values(csc: [f64; matrix_places::SQUARE], p: usize) -> [f64; matrix_places::MOST_CONTRASTS]
     ensures { λ r. ⌜ r ≡ values p csc ⌝ }
 {
     let mut m = csc;
@@ -52,7 +52,7 @@ fn epsilon_gg(values: [f64; matrix_places::MOST_CONTRASTS], k: usize) -> f64
 }
 
 // The epsilon of the matrix, k - 1 rows of k - 1 places.
-pub fn gg_of(csc: [f64; super::PLACES], k: usize) -> f64
+pub fn gg_of(csc: [f64; matrix_places::SQUARE], k: usize) -> f64
     requires { ⌜ (1 ≤ k) × (k ≤ mostConditions) ⌝ }
     ensures { λ r. ⌜ r ≡ ggOf k csc ⌝ }
 {

@@ -8,9 +8,6 @@ ghost use mathlib.Core.Path.{_≡_};
 ghost use Rattle.repeated_sphericity.specs.Corrections.{corrected, correctionsOf, computeSphericityCorrections};
 ghost use Rattle.repeated_sphericity.specs.Inner.{Taken};
 
-// The places of C S C', rows of as many places as there may be contrasts.
-const PLACES: usize = matrix_places::MOST_CONTRASTS * matrix_places::MOST_CONTRASTS;
-
 // One corrected analysis. The epsilons are canonical, F may be any NaN.
 fn corrected(f_stat: f64, df_num: f64, df_den: f64, epsilon: f64) -> CorrectedResult
     ensures { λ r. ⌜ r ≡ corrected «f_stat» «df_num» «df_den» epsilon ⌝ }
@@ -25,7 +22,7 @@ fn corrected(f_stat: f64, df_num: f64, df_den: f64, epsilon: f64) -> CorrectedRe
 
 // Everything, from C S C'.
 fn corrections_of(
-    csc: [f64; PLACES],
+    csc: [f64; matrix_places::SQUARE],
     n: usize,
     k: usize,
     f_stat: f64,
@@ -60,7 +57,7 @@ pub fn compute_sphericity_corrections(
     if k < 3 {
         return results::no_corrections();
     }
-    let mut csc = [0.0; PLACES];
+    let mut csc = [0.0; matrix_places::SQUARE];
     if repeated_contrasts::contrast_covariance(readings, means, n, k, &mut csc) {
         return corrections_of(csc, n, k, f_stat, df_num, df_den);
     }

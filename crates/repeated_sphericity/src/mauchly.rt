@@ -20,7 +20,7 @@ fn trace(m: &[f64], p: usize) -> f64
 }
 
 // The mean of the diagonal.
-fn mean_trace(csc: [f64; super::PLACES], p: usize) -> f64
+fn mean_trace(csc: [f64; matrix_places::SQUARE], p: usize) -> f64
     requires { ⌜ p ≤ mostContrasts ⌝ }
     ensures { λ r. ⌜ r ≡ meanTrace p csc ⌝ }
 {
@@ -28,7 +28,7 @@ fn mean_trace(csc: [f64; super::PLACES], p: usize) -> f64
 }
 
 // The determinant. The matrix is used up, so it is a copy.
-fn det(csc: [f64; super::PLACES], p: usize) -> f64
+fn det(csc: [f64; matrix_places::SQUARE], p: usize) -> f64
     ensures { λ r. ⌜ r ≡ det p csc ⌝ }
 {
     let mut m = csc;
@@ -36,7 +36,7 @@ fn det(csc: [f64; super::PLACES], p: usize) -> f64
 }
 
 // The determinant over a power of the diagonal's mean, unless that is too small or a NaN.
-fn w_raw(csc: [f64; super::PLACES], p: usize) -> f64
+fn w_raw(csc: [f64; matrix_places::SQUARE], p: usize) -> f64
     requires { ⌜ p ≤ mostContrasts ⌝ }
     ensures { λ r. ⌜ r ≡ wRaw p csc ⌝ }
 {
@@ -47,7 +47,7 @@ fn w_raw(csc: [f64; super::PLACES], p: usize) -> f64
     1.0
 }
 
-fn mauchly_w(csc: [f64; super::PLACES], p: usize) -> f64
+fn mauchly_w(csc: [f64; matrix_places::SQUARE], p: usize) -> f64
     requires { ⌜ p ≤ mostContrasts ⌝ }
     ensures { λ r. ⌜ r ≡ mauchlyW p csc ⌝ }
 {
@@ -62,7 +62,7 @@ fn df_w(p: usize) -> f64
 }
 
 // W and its degrees of freedom, which are a number.
-pub fn sphericity_of(csc: [f64; super::PLACES], p: usize) -> SphericityResult
+pub fn sphericity_of(csc: [f64; matrix_places::SQUARE], p: usize) -> SphericityResult
     requires { ⌜ p ≤ mostContrasts ⌝ }
     ensures { λ r. ⌜ r ≡ sphericityOf p csc ⌝ }
 {
