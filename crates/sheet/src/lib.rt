@@ -54,7 +54,7 @@ impl Sheet {
                 sheet: zero,
             };
         }
-        places::lay(&mut places, readings);
+        lent::put(&mut places, readings);
         let loaded = Sheet {
             places: places,
             rows: rows,

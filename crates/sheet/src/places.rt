@@ -1,22 +1,9 @@
-// Readings laid, and moved by one place, within the places that hold them.
+// Readings moved by one place, within the places that hold them.
 ghost use mathlib.Core.Path.{_≡_};
 ghost use Prim.Native.Nat.{_≤_, _<_};
 ghost use lib.ListN.{length};
-ghost use Rattle.base.specs.Lists.{over};
 ghost use Rattle.base.specs.Inner.{inserted, deleted};
 ghost use Rattle.float.specs.Words.{plusZero};
-
-// The readings, laid over the first places.
-pub fn lay(places: &mut [f64], readings: &[f64])
-    requires { ⌜ length (now readings) ≤ length (now places) ⌝ }
-    ensures { λ _. ⌜ now (places .exit) ≡ over (now (readings .entry)) (now (places .entry)) ⌝ }
-{
-    let mut i = 0;
-    while i < readings.len() {
-        places[i] = readings[i];
-        i += 1;
-    }
-}
 
 // x at `at`: each reading from there to `end` goes one place up, the last into `end` itself.
 pub fn insert(places: &mut [f64], at: usize, end: usize, x: f64)

@@ -3,7 +3,7 @@ use Prim.Native.Nat.{_-_}
 use borrow.Author.Needs.{needs}
 use lib.Ieee.{ofBits}
 use Rattle.sheet.specs.Sheets.{zeroPlaces}
-use Rattle.sheet.proofs.Loaded.{load-refused, load-fits, load-made}
+use Rattle.sheet.proofs.Loaded.{load-refused, load-made}
 use Rattle.sheet.proofs.Sheet.load.Statement.{statement}
 use Rattle.sheet.proofs.Sheet.load.Tie as tie
 
@@ -16,14 +16,11 @@ returns c =
     let v = c .before .before .before .before .validate-anova-groups in
     load-refused _ _ (v .result) (v .ensures) (c .if1 .taken)
 
-slice-aggregate-lay : tie.Need-slice-aggregate-lay
-slice-aggregate-lay c = search needs
+slice-aggregate-put : tie.Need-slice-aggregate-put
+slice-aggregate-put c = search needs
 
-lay-requires : tie.Need-lay-requires
-lay-requires c κs =
-    let e = c .before in
-    let v = e .before .before .before .before .validate-anova-groups in
-    load-fits _ _ (v .result) (v .ensures) (e .if1 .left)
+put-requires : tie.Need-put-requires
+put-requires c κs = search needs
 
 none-requires : tie.Need-none-requires
 none-requires c κs = search needs
@@ -33,7 +30,7 @@ unfolding zeroPlaces ofBits
 returns-2 c =
     let e = c .before .before .before .before in
     let v = e .before .before .before .before .validate-anova-groups in
-    load-made _ _ (v .result) (v .ensures) (e .if1 .left) (c .before .before .lay .ensures) (c .none .ensures)
+    load-made _ _ (v .result) (v .ensures) (e .if1 .left) (c .before .before .put .ensures) (c .none .ensures)
 
 pub load-spec : {M : Type 1} → statement M
 load-spec =
@@ -41,7 +38,7 @@ load-spec =
     (tie.spec
     validate-anova-groups-requires
     returns
-    slice-aggregate-lay
-    lay-requires
+    slice-aggregate-put
+    put-requires
     none-requires
     returns-2)
