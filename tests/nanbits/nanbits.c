@@ -1,34 +1,16 @@
 /* nanbits COUNT: the raw bits of every double that the library hands out. Each NaN among them must be 7FF8000000000000. No proof can say so, since the logic has
    one NaN, and the comparisons with the Rust print every NaN alike. The machine's own NaN of 0/0 or inf - inf is FFF8000000000000, so a NaN that is handed out
-   as the machine made it is seen here. Here are the calls that the library exports by itself; rawcalls.c has the other public functions.
+   as the machine made it is seen here. Here are the inputs, and what is looked at and told; rawcalls.c has the calls.
 
    Each kind of readings that makes NaNs is put through each call in designs of several shapes; then COUNT random sets mix the kinds. Inputs are kept as whole
    numbers, so that nothing here changes a NaN's bits. Before a call, its output and its scratch hold a NaN that no arithmetic makes: so a place that the call
    ought to write and does not is seen too, and one that it ought to leave and writes. */
 #include "nanbits.h"
-#include "exported.h"
 
 #include <float.h>
 #include <stdio.h>
 #include <stdlib.h>
 #include <string.h>
-
-enum { PLACES = 25 };
-enum { FISHER, WELCH, ROOT, HISTORY_FISHER, HISTORY_WELCH, BALANCED, UNBALANCED, PLAIN, SPHERICITY, CALLS };
-
-/* The places that cannot hold a NaN: degrees of freedom that are counts, what Welch's method does not have, what is not worked out where sphericity is not asked
-   for, and both epsilons, which have numbers as bounds, with the degrees of freedom that one of them makes. */
-static struct call calls[CALLS] = {
-    {.name = "speed_fisher", .places = 25, .must = 23},
-    {.name = "speed_welch", .places = 25, .must = 18},
-    {.name = "speed_sqrt", .places = 1, .must = 1},
-    {.name = "speed_history_fisher", .places = EDITS, .must = EDITS},
-    {.name = "speed_history_welch", .places = EDITS, .must = EDITS},
-    {.name = "speed_two_way, balanced", .places = 6, .must = 6},
-    {.name = "speed_two_way, unbalanced", .places = 6, .must = 6},
-    {.name = "speed_repeated", .places = 8, .must = 4},
-    {.name = "speed_repeated, sphericity", .places = 8, .must = 5},
-};
 
 static int failed;
 static unsigned long asked, made, kept;
@@ -88,44 +70,6 @@ void look(struct call *c, const struct set *s, unsigned place, uint64_t b) {
 void fill(double *p, size_t n) {
     const uint64_t strange = STRANGE;
     for (size_t i = 0; i < n; i++) memcpy(p + i, &strange, sizeof strange);
-}
-
-/* All designs here are sound, so a call takes each that has no NaN and refuses each other one with number 4. A refused call leaves what it was lent as it was. */
-static void ask(int which, const struct set *s) {
-    static double readings[READINGS], fresh[EDITS], out[PLACES + BEHIND], scratch[SCRATCH + BEHIND];
-    struct call *c = calls + which;
-    uint32_t got = 0, want = 0;
-    int two_way = which == BALANCED || which == UNBALANCED;
-    c->calls++;
-    memcpy(readings, s->readings, sizeof readings);
-    memcpy(fresh, s->fresh, sizeof fresh);
-    fill(out, PLACES + BEHIND);
-    if (two_way) fill(scratch, SCRATCH + BEHIND);
-    switch (which) {
-    case FISHER: got = speed_fisher(readings, s->n, s->sizes, s->k, out, PLACES + BEHIND); break;
-    case WELCH: got = speed_welch(readings, s->n, s->sizes, s->k, out, PLACES + BEHIND); break;
-    case ROOT: out[0] = speed_sqrt(readings[0]); break;
-    case HISTORY_FISHER: got = speed_history_fisher(readings, s->n, s->sizes, s->k, s->edits, 3 * EDITS, fresh, EDITS, out, EDITS); break;
-    case HISTORY_WELCH: got = speed_history_welch(readings, s->n, s->sizes, s->k, s->edits, 3 * EDITS, fresh, EDITS, out, EDITS); break;
-    case BALANCED:
-    case UNBALANCED: got = speed_two_way(readings, s->n, s->code_a, s->n, s->code_b, s->n, scratch, SCRATCH + BEHIND, out, PLACES); break;
-    default: got = speed_repeated(readings, s->n, s->sizes, s->k, which == SPHERICITY, out, PLACES);
-    }
-    for (unsigned i = 0; i < s->n && which != ROOT; i++)
-        if (is_nan(s->readings[i])) want = 4;
-    if (got != want) fail(c, s, got, want ? "a NaN was not refused with number 4" : "a sound design was refused", 0, bits(out[0]));
-    if (got == 0) c->accepted++;
-    for (unsigned i = 0; i < PLACES + BEHIND; i++) {
-        uint64_t b = bits(out[i]);
-        if (got == 0 && i < c->places)
-            look(c, s, i, b);
-        else if (b != STRANGE)
-            fail(c, s, got, "a place of the output that had to stay was changed", i, b);
-    }
-    for (unsigned i = 0; two_way && i < SCRATCH + BEHIND; i++) {
-        uint64_t b = bits(scratch[i]);
-        if (b != (got == 0 && i < SCRATCH ? 0 : STRANGE)) fail(c, s, got, "the scratch is not as it ought to be left", i, b);
-    }
 }
 
 /* ---- a generator of its own, so that every run has the same sets. Two draws never stand where their order is left to the compiler. */
@@ -255,56 +199,12 @@ void edits(struct set *s) {
     }
 }
 
-/* ---- all calls on designs of one shape: on one kind of readings, or (kind KINDS) on kinds mixed */
-
+/* The readings of one kind, or (kind KINDS) of kinds mixed. */
 void readings_of(struct set *s, unsigned kind) {
     if (kind == KINDS)
         mixed(s);
     else
         of_kind(s, kind);
-}
-
-static void ask_groups(struct set *s, unsigned kind, unsigned k, unsigned low, unsigned high) {
-    rows(s, k, low, high);
-    readings_of(s, kind);
-    edits(s);
-    ask(FISHER, s), ask(WELCH, s), ask(HISTORY_FISHER, s), ask(HISTORY_WELCH, s);
-}
-
-static void ask_cells(struct set *s, unsigned kind, unsigned levels_a, unsigned levels_b, unsigned most) {
-    for (int which = BALANCED; which <= UNBALANCED; which++) {
-        cells(s, levels_a, levels_b, most, which == BALANCED);
-        readings_of(s, kind);
-        codes(s, kind < KINDS);
-        ask(which, s);
-    }
-}
-
-static void ask_subjects(struct set *s, unsigned kind, unsigned subjects, unsigned conditions) {
-    rows(s, subjects, conditions, conditions);
-    readings_of(s, kind);
-    ask(PLAIN, s), ask(SPHERICITY, s);
-}
-
-static void ask_root(struct set *s, uint64_t b) {
-    rows(s, 0, 0, 0);
-    s->kind = "the argument", s->n = 1, s->readings[0] = b;
-    ask(ROOT, s);
-}
-
-/* A NaN of each pattern, as the last reading and as the first: it must not come through. */
-static void ask_nans(struct set *s) {
-    for (unsigned i = 0; i < 2 * NANS; i++) {
-        rows(s, 3, 3, 3), of_kind(s, i % 3);
-        s->kind = "a NaN", s->readings[i < NANS ? s->n - 1 : 0] = nans[i % NANS];
-        edits(s);
-        ask(FISHER, s), ask(WELCH, s), ask(HISTORY_FISHER, s), ask(HISTORY_WELCH, s), ask(PLAIN, s), ask(SPHERICITY, s);
-        for (int which = BALANCED; which <= UNBALANCED; which++) {
-            cells(s, 2, 2, 3, which == BALANCED), of_kind(s, i % 3), codes(s, 1);
-            s->kind = "a NaN", s->readings[i < NANS ? s->n - 1 : 0] = nans[i % NANS];
-            ask(which, s);
-        }
-    }
 }
 
 /* A line for each call. */
@@ -327,24 +227,6 @@ void tell(const struct call *first, unsigned n) {
 int main(int argc, char **argv) {
     static struct set s;
     unsigned long count = argc > 1 ? strtoul(argv[1], NULL, 10) : 1000;
-    for (unsigned kind = 0; kind < KINDS; kind++) {
-        ask_groups(&s, kind, 2, 2, 2), ask_groups(&s, kind, 3, 2, 5), ask_groups(&s, kind, 16, 2, 4), ask_groups(&s, kind, 16, 32, 32);
-        ask_cells(&s, kind, 2, 2, 2), ask_cells(&s, kind, 3, 2, 3), ask_cells(&s, kind, 6, 6, 4), ask_cells(&s, kind, 6, 6, 14);
-        ask_subjects(&s, kind, 2, 2), ask_subjects(&s, kind, 3, 3), ask_subjects(&s, kind, 6, 4), ask_subjects(&s, kind, 42, 12);
-        for (unsigned p = 0; p < 8; p++) ask_root(&s, reading(kind, p % 2, p)), ask_root(&s, bits(-with_bits(reading(kind, p % 2, p))));
-    }
-    for (unsigned i = 0; i < NANS; i++) ask_root(&s, nans[i]);
-    ask_nans(&s);
-    for (unsigned long i = 0; i < count; i++) {
-        unsigned groups = 2 + below(below(3) ? 4 : 15), largest = 2 + below(below(8) ? 6 : 30);
-        unsigned levels_a = 2 + below(below(3) ? 2 : 5), levels_b = 2 + below(below(3) ? 2 : 5), most = 2 + below(4);
-        unsigned subjects = 2 + below(below(8) ? 8 : 41), conditions = 2 + below(below(4) ? 4 : 11);
-        ask_groups(&s, KINDS, groups, 2, largest);
-        ask_cells(&s, KINDS, levels_a, levels_b, most);
-        ask_subjects(&s, KINDS, subjects, conditions);
-        ask_root(&s, next()), ask_root(&s, PLUS | next());
-    }
-    tell(calls, CALLS);
     raw_calls(&s, count);
     printf("nanbits: %lu calls on %lu sets (%lu random ones of each sort), %lu NaNs made and %lu kept: ", asked, sets, count, made, kept);
     puts(failed ? "FAILED" : "each that is made has the bits 7FF8000000000000, and each that is kept has its own");

@@ -1,5 +1,5 @@
-/* The raw bits of what the public functions store or hand out that C cannot call: the file `calls` here has an exported one before each. nanbits.c says what is
-   looked at and why. What a function only passes on keeps its bits, whatever they are: the view of a group, a refused edit's sheet, the rows and places that an
+/* The raw bits of what the public functions store or hand out: the file `calls` here has an exported function before each. nanbits.c says what is looked at and
+   why. What a function only passes on keeps its bits, whatever they are: the view of a group, a refused edit's sheet, the rows and places that an
    edit does not rework, the memory of a refused call, and the places behind what a call writes. That is looked at too. */
 #include "nanbits.h"
 #include "exported.h"
@@ -8,19 +8,22 @@
 #include <string.h>
 
 enum {
-    CANON, CANON_PLACES, ABS, LEAST, GREATEST, CLAMP, POWER, FLOAT_OF, PUT, WIPE, SUM, SQ_DEV, MEAN, VARIANCE, REFUSED, EMPTY_ROWS, ROW, VALIDATE, REPORT_FISHER,
-    REPORT_WELCH, VIEW, LOAD, EDIT, SHEET_FISHER, SHEET_WELCH, READ_SET, SET_FISHER, SET_WELCH, EFFECT_ROW, PLAIN_ROW, NO_ROW, NO_EFFECTS, CELL_TABLE, BALANCED_SS,
+    CANON, CANON_PLACES, ABS, LEAST, GREATEST, CLAMP, POWER, FLOAT_OF, ROOT, PUT, WIPE, SUM, SQ_DEV, MEAN, VARIANCE, REFUSED, EMPTY_ROWS, ROW, VALIDATE, FISHER, WELCH,
+    REPORT_FISHER, REPORT_WELCH, VIEW, LOAD, EDIT, SHEET_FISHER, SHEET_WELCH, READ_SET, SET_FISHER, SET_WELCH, EFFECT_ROW, PLAIN_ROW, NO_ROW, NO_EFFECTS, CELL_TABLE, BALANCED_SS,
     TYPE3_SS, ORGANIZE, ORGANIZE_REFUSED, TWO_WAY, TWO_WAY_UNBALANCED, TWO_WAY_REFUSED, STUDY, STUDY_REFUSED, RM_TABLE, REPEATED, REPEATED_SPHERICITY, COVARIANCE,
     CORRECTIONS, NO_CORRECTIONS, SOLVE, INVERSE, DETERMINANT, DOT, LESS_ROW, OVER_ROW, ORTHONORMALIZE, PRODUCT, CSC, QR, EIGENVALUES, RAW
 };
 
-/* Beside the places that nanbits.c names: a row without F has +0.0 there; a view, a sheet's places and sorted readings are never made NaNs; an answer of nothing
-   but zeros has none; R is zero below its diagonal, and the last of these places lie there in each size. The determinant's own place is the first. */
+/* The places that cannot hold a NaN: degrees of freedom that are counts, what Welch's method does not have, what is not worked out where sphericity is not asked
+   for, and both epsilons, which have numbers as bounds, with the degrees of freedom that one of them makes. A row without F has +0.0 there; a view, a sheet's
+   places and sorted readings are never made NaNs; an answer of nothing but zeros has none; R is zero below its diagonal, and the last of these places lie there
+   in each size. The determinant's own place is the first. */
 #define CALL(C, NAME, PLACES, MUST) [C] = {.name = NAME, .places = PLACES, .must = MUST}
 #define KEEP(C, NAME, PLACES, MUST) [C] = {.name = NAME, .places = PLACES, .must = MUST, .keeps = 1}
 static struct call raw[RAW] = {
     CALL(CANON, "float::canon", 1, 1), KEEP(CANON_PLACES, "float::canon_places", 16, 16), CALL(ABS, "float::abs", 1, 1), CALL(LEAST, "float::least", 1, 1),
     CALL(GREATEST, "float::greatest", 1, 1), CALL(CLAMP, "float::clamp", 1, 1), CALL(POWER, "float::power", 1, 1), CALL(FLOAT_OF, "float::float_of", 1, 1),
+    CALL(ROOT, "root::sqrt", 1, 1), CALL(FISHER, "one_way_anova, Fisher", 25, 23), CALL(WELCH, "one_way_anova, Welch", 25, 18),
     KEEP(PUT, "lent::put", 0, 0), CALL(WIPE, "lent::wipe", 0, 0), CALL(REFUSED, "results::refused", 25, 0), CALL(EMPTY_ROWS, "Row::empty, Sheet::empty_row", 4, 0),
     CALL(NO_ROW, "results::no_row", 4, 0), CALL(NO_EFFECTS, "results::no_effects", 3, 0), CALL(NO_CORRECTIONS, "results::no_corrections", 10, 0),
     CALL(SUM, "stats::sum", 1, 1), CALL(SQ_DEV, "stats::sq_dev", 1, 1), CALL(MEAN, "stats::mean", 1, 1), CALL(VARIANCE, "stats::variance", 1, 1),
@@ -128,6 +131,7 @@ static void ask_floats(struct set *s, uint64_t a, uint64_t b, uint64_t c) {
     s->kind = "the arguments", s->n = 3, s->readings[0] = a, s->readings[1] = b, s->readings[2] = c;
     gave(CANON, s, raw_canon(x)), gave(ABS, s, raw_abs(x)), gave(FLOAT_OF, s, raw_float_of(a));
     gave(LEAST, s, raw_least(x, y)), gave(GREATEST, s, raw_greatest(x, y)), gave(CLAMP, s, raw_clamp(x, y, z));
+    gave(ROOT, s, raw_sqrt(x)), gave(ROOT, s, raw_sqrt(y)), gave(ROOT, s, raw_sqrt(z));
     for (unsigned i = 0; i < sizeof powers / sizeof *powers; i++) gave(POWER, s, raw_power(x, powers[i]));
     raw_effect_row(x, y, z, LENT(one, 4 + BEHIND)), took(EFFECT_ROW, s, 0, 0), wrote(EFFECT_ROW, s, &one, 4, 0);
     raw_plain_row(x, y, LENT(one, 4 + BEHIND)), took(PLAIN_ROW, s, 0, 0), wrote(PLAIN_ROW, s, &one, 4, 0);
@@ -251,12 +255,23 @@ static void ask_sheet(struct set *s) {
     }
 }
 
+/* Both analyses of a set's rows. All of a refused answer but the refusal is zero. */
+static void ask_one_way(const struct set *s) {
+    with(&one, s->readings, s->n);
+    for (int which = FISHER; which <= WELCH; which++)
+        if (took(which, s, raw_one_way(one.at, s->n, s->sizes, s->k, which == WELCH, LENT(four, 9), LENT(five, 16)), any_nan(s) ? 4 : 0))
+            wrote(which, s, &four, 9, 0), wrote(which, s, &five, 16, 9);
+        else
+            zeros(which, s, &four, 9), zeros(which, s, &five, 16);
+}
+
 static void ask_groups(struct set *s, unsigned kind, unsigned k, unsigned low, unsigned high) {
     for (int spoilt = 0; spoilt < 2; spoilt++) {
         rows(s, k, low, high);
         readings_of(s, kind);
         if (spoilt) spoil(s);
         unsigned want = any_nan(s) ? 4 : 0;
+        ask_one_way(s);
         with(&one, s->readings, s->n);
         took(VALIDATE, s, raw_validate(one.at, s->n, s->sizes, k, LENT(two, 16), LENT(three, 16)), want);
         wrote(VALIDATE, s, &two, 16, 0), wrote(VALIDATE, s, &three, 16, 16);
@@ -313,6 +328,12 @@ static void ask_design(int which, const struct set *s, const struct design *d) {
     else wrote(which, s, &three, places, 0);
 }
 
+/* The analysis of a set's cells. */
+static void ask_two_way(const struct set *s, int balanced) {
+    struct design taken = {SCRATCH + BEHIND, s->n, s->n, {0, 0, 0, s->k / s->levels_b, s->levels_b, s->n}}, a_nan = {SCRATCH + BEHIND, s->n, s->n, {4}};
+    ask_design(balanced ? TWO_WAY : TWO_WAY_UNBALANCED, s, any_nan(s) ? &a_nan : &taken);
+}
+
 static void ask_cells(struct set *s, unsigned kind, unsigned levels_a, unsigned levels_b, unsigned most, int spoilt) {
     static size_t counts[ROWS];
     for (int balanced = 0; balanced < 2; balanced++) {
@@ -332,7 +353,7 @@ static void ask_cells(struct set *s, unsigned kind, unsigned levels_a, unsigned 
         struct design taken = {SCRATCH + BEHIND, s->n, s->n, {0, 0, 0, levels_a, levels_b, s->n}};
         struct design a_nan = {SCRATCH + BEHIND, s->n, s->n, {4}}, uneven = {SCRATCH + BEHIND, s->n, s->n, {10, s->sizes[0], s->sizes[1]}};
         const struct design *d = any_nan(s) ? &a_nan : &taken;
-        ask_design(ORGANIZE, s, d), ask_design(balanced ? TWO_WAY : TWO_WAY_UNBALANCED, s, d);
+        ask_design(ORGANIZE, s, d), ask_two_way(s, balanced);
         taken.told[5] = s->sizes[0];
         ask_design(STUDY, s, balanced || any_nan(s) ? d : &uneven);
     }
@@ -399,19 +420,26 @@ static void ask_faults(struct set *s, unsigned kind, unsigned levels_a, unsigned
 
 /* ---- repeated measures */
 
+/* Both analyses of a set's subjects. All of a refused answer but the refusal is zero. */
+static void ask_repeated(const struct set *s) {
+    with(&five, s->readings, s->n);
+    for (int which = REPEATED; which <= REPEATED_SPHERICITY; which++) {
+        uint32_t got = raw_repeated(five.at, s->n, s->sizes, s->k, which == REPEATED_SPHERICITY, LENT(one, 17), LENT(two, 10), LENT(three, 12), LENT(four, 64));
+        if (took(which, s, got, any_nan(s) ? 4 : 0))
+            wrote(which, s, &one, 17, 0), wrote(which, s, &two, 10, 17), wrote(which, s, &three, 12, 27), wrote(which, s, &four, 64, 39);
+        else
+            zeros(which, s, &one, 17), zeros(which, s, &two, 10), zeros(which, s, &three, 12), zeros(which, s, &four, 64);
+    }
+}
+
 static void ask_subjects(struct set *s, unsigned kind, unsigned n, unsigned k, int spoilt) {
     static double readings[READINGS];
     uint64_t means[12], f = anything(), num = anything(), den = anything();
     rows(s, n, k, k);
     readings_of(s, kind);
     if (spoilt) spoil(s);
-    unsigned want = any_nan(s) ? 4 : 0;
+    ask_repeated(s);
     memcpy(readings, s->readings, sizeof readings);
-    for (int which = REPEATED; which <= REPEATED_SPHERICITY; which++) {
-        uint32_t got = raw_repeated(readings, s->n, s->sizes, n, which == REPEATED_SPHERICITY, LENT(one, 17), LENT(two, 10), LENT(three, 12), LENT(four, 64));
-        took(which, s, got, want);
-        wrote(which, s, &one, 17, 0), wrote(which, s, &two, 10, 17), wrote(which, s, &three, 12, 27), wrote(which, s, &four, 64, 39);
-    }
     numbers(s, n, k, 0);
     raw_rm_table(readings, s->n, n, k, LENT(one, 5), LENT(two, 64), LENT(three, 12)), took(RM_TABLE, s, 0, 0);
     wrote(RM_TABLE, s, &one, 5, 0), wrote(RM_TABLE, s, &two, 64, 5), wrote(RM_TABLE, s, &three, 12, 69);
@@ -504,6 +532,29 @@ static void ask_row_steps(struct set *s, unsigned kind) {
     wrote_part(OVER_ROW, s, &one, p, p > 16 ? p : p + 8);
 }
 
+/* ---- the analyses alone */
+
+/* Groups, cells and subjects of one kind of readings. */
+static void ask_analyses(struct set *s, unsigned kind, unsigned groups, unsigned largest, unsigned levels_a, unsigned levels_b, unsigned most, unsigned subjects, unsigned conditions) {
+    rows(s, groups, 2, largest), readings_of(s, kind), ask_one_way(s);
+    for (int balanced = 0; balanced < 2; balanced++) cells(s, levels_a, levels_b, most, balanced), readings_of(s, kind), codes(s, kind < KINDS), ask_two_way(s, balanced);
+    rows(s, subjects, conditions, conditions), readings_of(s, kind), ask_repeated(s);
+}
+
+/* A NaN of each pattern, as the last reading and as the first: it must not come through. */
+static void ask_nans(struct set *s) {
+    for (unsigned i = 0; i < 2 * NANS; i++)
+        for (int what = 0; what < 3; what++) {
+            if (what < 2) cells(s, 2, 2, 3, what);
+            else rows(s, 3, 3, 3);
+            readings_of(s, i % 3);
+            if (what < 2) codes(s, 1);
+            s->kind = "a NaN", s->readings[i < NANS ? s->n - 1 : 0] = nans[i % NANS];
+            if (what < 2) ask_two_way(s, what);
+            else ask_one_way(s), ask_repeated(s);
+        }
+}
+
 void raw_calls(struct set *s, unsigned long count) {
     uint64_t args[] = {PLUS, MINUS, 0, 0x8000000000000000u, 0x3FF0000000000000u, 0xBFF0000000000000u, 0x7FEFFFFFFFFFFFFFu, 1};
     enum { ARGS = sizeof args / sizeof *args, ALL = ARGS + NANS };
@@ -511,7 +562,14 @@ void raw_calls(struct set *s, unsigned long count) {
         unsigned a = i % ALL, b = i / ALL % ALL, c = i / ALL / ALL;
         ask_floats(s, a < ARGS ? args[a] : nans[a - ARGS], b < ARGS ? args[b] : nans[b - ARGS], c < ARGS ? args[c] : nans[c - ARGS]);
     }
+    for (unsigned kind = 0; kind < KINDS; kind++)
+        for (unsigned p = 0; p < 8; p++) {
+            uint64_t x = reading(kind, p % 2, p);
+            ask_floats(s, x, x ^ 0x8000000000000000u, reading(kind, 1 - p % 2, p));
+        }
     for (uint32_t number = 0; number < 16; number++) ask_zeros(s, number);
+    ask_nans(s);
+    for (unsigned kind = 0; kind < KINDS; kind++) ask_analyses(s, kind, 16, 32, 6, 6, 4, 6, 4), ask_analyses(s, kind, 3, 170, 6, 6, 14, 42, 12);
     for (unsigned kind = 0; kind < KINDS; kind++)
         for (unsigned cell = 0; cell < 25; cell++) ask_faults(s, kind, 2 + cell / 5, 2 + cell % 5);
     for (unsigned kind = 0; kind <= KINDS; kind++)
@@ -529,8 +587,12 @@ void raw_calls(struct set *s, unsigned long count) {
         for (unsigned column = 1; column < p; column++) ask_overflow(s, p, column);
     for (unsigned long i = 0; i < count; i++) {
         unsigned few = 2 + below(3), p = 1 + below(below(8) ? 4 : 11), k = 1 + below(below(8) ? 4 : 12);
-        uint64_t a = anything(), b = anything(), c = next();
+        unsigned groups = 2 + below(below(3) ? 4 : 15), largest = 2 + below(below(8) ? 6 : 30);
+        unsigned levels_a = 2 + below(below(3) ? 2 : 5), levels_b = 2 + below(below(3) ? 2 : 5), most = 2 + below(4);
+        unsigned subjects = 2 + below(below(8) ? 8 : 41), conditions = 2 + below(below(4) ? 4 : 11);
+        uint64_t a = anything(), b = below(2) ? anything() : PLUS | next(), c = next();
         ask_floats(s, a, b, c);
+        ask_analyses(s, KINDS, groups, largest, levels_a, levels_b, most, subjects, conditions);
         ask_list(s, KINDS, below(24)), ask_dot(s, KINDS), ask_row_steps(s, KINDS);
         ask_groups(s, KINDS, few, 2, 6), ask_cells(s, KINDS, few, 2 + i % 3, 4, i % 4 == 0);
         if (i % 8 == 0) ask_faults(s, below(KINDS), few, 2 + i % 3);
