@@ -6,12 +6,13 @@ use mathlib.Core.List.{List, _++_}
 use native.Mathlib.Omega.{arith}
 use lib.ListN.{length, take, drop}
 use lib.Ieee.{Float}
+use Rattle.base.specs.Limits.{mostCells, scratchPlaces}
 use Rattle.base.specs.Lists.{part, within}
 use Rattle.matrix_linear.specs.System.{solveLinearSystem}
 use Rattle.matrix_linear.specs.Inverse.{matrixInverse}
 use Rattle.matrix_linear.proofs.Lengths.{solve-length, inverse-length}
 use Rattle.twoway_type3.specs.Matrices.{leftHalf, table}
-use Rattle.twoway_type3.specs.Inner.{halfAt}
+use Rattle.twoway_type3.specs.Inner.{halfAt, inverseFrom, blockFrom, mostColumns}
 use Rattle.twoway_type3.specs.Normal.{normalSystem}
 use Rattle.twoway_type3.specs.Wald.{waldSum, covInv, waldSs}
 use Rattle.twoway_type3.specs.Answer.{beta, inverse, allEffects}
@@ -28,70 +29,70 @@ abbrev laid : ℕ → ℕ → List Float → List Float → List Float
 laid a k x s = take a s ++ (x ++ drop k (drop a s))
 
 -- an effect: its block is laid behind the inverse, and inverted there
-module _ (p s n : ℕ) (z : 0 < n) (few : n ≤ 25) (inside : s + n ≤ p) (most : p ≤ 36) (w₀ : List Float) (long : length w₀ ≡ 6400) where
+module _ (p s n : ℕ) (z : 0 < n) (few : n ≤ mostColumns) (inside : s + n ≤ p) (most : p ≤ mostCells) (w₀ : List Float) (long : length w₀ ≡ scratchPlaces) where
   pub wald-chain : {w₁ x : List Float} {t : Bool} {r : Float}
-      → w₁ ≡ within 3924 (n * (2 * n)) (λ _. leftHalf n (1332 + (s * (2 * p) + (p + s))) (2 * p) w₀) w₀
-      → (x, t) ≡ matrixInverse n (part 3924 (n * (2 * n)) w₁)
-      → r ≡ waldSum p s n (part 0 (p * (p + 1)) (laid 3924 (n * (2 * n)) x w₁)) (part 3924 (n * (2 * n)) (laid 3924 (n * (2 * n)) x w₁))
-      → (r ≡ waldSs p s n (part 0 (p * (p + 1)) w₀) (part 1332 (p * (2 * p)) w₀)) × (take 3924 (laid 3924 (n * (2 * n)) x w₁) ≡ take 3924 w₀)
+      → w₁ ≡ within blockFrom (n * (2 * n)) (λ _. leftHalf n (inverseFrom + (s * (2 * p) + (p + s))) (2 * p) w₀) w₀
+      → (x, t) ≡ matrixInverse n (part blockFrom (n * (2 * n)) w₁)
+      → r ≡ waldSum p s n (part 0 (p * (p + 1)) (laid blockFrom (n * (2 * n)) x w₁)) (part blockFrom (n * (2 * n)) (laid blockFrom (n * (2 * n)) x w₁))
+      → (r ≡ waldSs p s n (part 0 (p * (p + 1)) w₀) (part inverseFrom (p * (2 * p)) w₀)) × (take blockFrom (laid blockFrom (n * (2 * n)) x w₁) ≡ take blockFrom w₀)
   unfolding waldSs covInv within
-  wald-chain {w₁} {x} {t} {r} e f g = (g ∙ ap (λ (b : List Float). waldSum p s n b (part 3924 k (laid 3924 k x w₁))) front ∙ ap (waldSum p s n (part 0 (p * (p + 1)) w₀)) back, taken)
+  wald-chain {w₁} {x} {t} {r} e f g = (g ∙ ap (λ (b : List Float). waldSum p s n b (part blockFrom k (laid blockFrom k x w₁))) front ∙ ap (waldSum p s n (part 0 (p * (p + 1)) w₀)) back, taken)
     where
       k : ℕ
       k = n * (2 * n)
 
       h : List Float
-      h = leftHalf n (1332 + (s * (2 * p) + (p + s))) (2 * p) w₀
+      h = leftHalf n (inverseFrom + (s * (2 * p) + (p + s))) (2 * p) w₀
 
-      room : 3924 + n * (2 * n) ≤ length w₀
+      room : blockFrom + n * (2 * n) ≤ length w₀
       room = omega (arith, block-most n few)
 
-      long₁ : length w₁ ≡ 6400
-      long₁ = ap length e ∙ laid-length 3924 k h w₀ room (half-length n (1332 + (s * (2 * p) + (p + s))) (2 * p) w₀) ∙ long
+      long₁ : length w₁ ≡ scratchPlaces
+      long₁ = ap length e ∙ laid-length blockFrom k h w₀ room (half-length n (inverseFrom + (s * (2 * p) + (p + s))) (2 * p) w₀) ∙ long
 
-      room₁ : 3924 + n * (2 * n) ≤ length w₁
+      room₁ : blockFrom + n * (2 * n) ≤ length w₁
       room₁ = omega (arith, block-most n few, long₁)
 
-      block : part 3924 k w₁ ≡ h
-      block = ap (part 3924 k) e ∙ laid-same 3924 k h w₀ room (half-length n (1332 + (s * (2 * p) + (p + s))) (2 * p) w₀)
+      block : part blockFrom k w₁ ≡ h
+      block = ap (part blockFrom k) e ∙ laid-same blockFrom k h w₀ room (half-length n (inverseFrom + (s * (2 * p) + (p + s))) (2 * p) w₀)
 
-      whole : x ≡ matrixInverse n (part 3924 k w₁) .0
+      whole : x ≡ matrixInverse n (part blockFrom k w₁) .0
       whole = ap (λ (y : List Float × Bool). y .0) f
 
       long-x : length x ≡ n * (2 * n)
-      long-x = ap length whole ∙ inverse-length n (part 3924 k w₁) ∙ length-part 3924 k w₁ room₁
+      long-x = ap length whole ∙ inverse-length n (part blockFrom k w₁) ∙ length-part blockFrom k w₁ room₁
 
-      taken : take 3924 (laid 3924 k x w₁) ≡ take 3924 w₀
-      taken = laid-taken 3924 k x w₁ room₁ long-x 3924 (omega arith) ∙ ap (take 3924) e ∙ laid-taken 3924 k h w₀ room (half-length n (1332 + (s * (2 * p) + (p + s))) (2 * p) w₀) 3924 (omega arith)
+      taken : take blockFrom (laid blockFrom k x w₁) ≡ take blockFrom w₀
+      taken = laid-taken blockFrom k x w₁ room₁ long-x blockFrom (omega arith) ∙ ap (take blockFrom) e ∙ laid-taken blockFrom k h w₀ room (half-length n (inverseFrom + (s * (2 * p) + (p + s))) (2 * p) w₀) blockFrom (omega arith)
 
-      front : part 0 (p * (p + 1)) (laid 3924 k x w₁) ≡ part 0 (p * (p + 1)) w₀
-      front = part-of-taken 0 (p * (p + 1)) 3924 (laid 3924 k x w₁) w₀ (omega (arith, system-most p most)) taken
+      front : part 0 (p * (p + 1)) (laid blockFrom k x w₁) ≡ part 0 (p * (p + 1)) w₀
+      front = part-of-taken 0 (p * (p + 1)) blockFrom (laid blockFrom k x w₁) w₀ (omega (arith, system-most p most)) taken
 
-      back : part 3924 k (laid 3924 k x w₁) ≡ matrixInverse n (leftHalf n (s * (2 * p) + (p + s)) (2 * p) (part 1332 (p * (2 * p)) w₀)) .0
+      back : part blockFrom k (laid blockFrom k x w₁) ≡ matrixInverse n (leftHalf n (s * (2 * p) + (p + s)) (2 * p) (part inverseFrom (p * (2 * p)) w₀)) .0
       back =
-          laid-same 3924 k x w₁ room₁ long-x
+          laid-same blockFrom k x w₁ room₁ long-x
           ∙ whole
-          ∙ ap (λ (y : List Float). matrixInverse n y .0) (block ∙ half-part n (s * (2 * p) + (p + s)) (2 * p) 1332 (p * (2 * p)) w₀ z (block-rows p s n inside))
+          ∙ ap (λ (y : List Float). matrixInverse n y .0) (block ∙ half-part n (s * (2 * p) + (p + s)) (2 * p) inverseFrom (p * (2 * p)) w₀ z (block-rows p s n inside))
 
   -- the same, where j and k are the lengths of the parts as the code works them out
   pub wald-lent : (j k : ℕ) → j ≡ p * (p + 1) → k ≡ n * (2 * n) → {w₁ x : List Float} {t : Bool} {r : Float}
-      → w₁ ≡ within 3924 (n * (2 * n)) (λ _. leftHalf n (1332 + (s * (2 * p) + (p + s))) (2 * p) w₀) w₀
-      → (x, t) ≡ matrixInverse n (take k (drop 3924 w₁))
-      → r ≡ waldSum p s n (take j (drop 0 (laid 3924 k x w₁))) (take k (drop 3924 (laid 3924 k x w₁)))
-      → (r ≡ waldSs p s n (part 0 (p * (p + 1)) w₀) (part 1332 (p * (2 * p)) w₀)) × (take 3924 (laid 3924 k x w₁) ≡ take 3924 w₀)
+      → w₁ ≡ within blockFrom (n * (2 * n)) (λ _. leftHalf n (inverseFrom + (s * (2 * p) + (p + s))) (2 * p) w₀) w₀
+      → (x, t) ≡ matrixInverse n (take k (drop blockFrom w₁))
+      → r ≡ waldSum p s n (take j (drop 0 (laid blockFrom k x w₁))) (take k (drop blockFrom (laid blockFrom k x w₁)))
+      → (r ≡ waldSs p s n (part 0 (p * (p + 1)) w₀) (part inverseFrom (p * (2 * p)) w₀)) × (take blockFrom (laid blockFrom k x w₁) ≡ take blockFrom w₀)
   unfolding part
   wald-lent j k ej ek e f g = rw ek (wald-chain e (rw ek at f) (rw (ej, ek) at g))
 
 -- the system is built and copied, solved and inverted
-module _ (values : List Float) (us vs : List ℕ) (a b : ℕ) (some : 0 < a * b) (most : a * b ≤ 36) (w₀ : List Float) (long : length w₀ ≡ 6400) where
+module _ (values : List Float) (us vs : List ℕ) (a b : ℕ) (some : 0 < a * b) (most : a * b ≤ mostCells) (w₀ : List Float) (long : length w₀ ≡ scratchPlaces) where
   pub solve-chain : {x₁ w₂ x₃ x₄ : List Float} {t₃ t₄ : Bool}
       → x₁ ≡ normalSystem values us vs a b
       → length x₁ ≡ a * b * (a * b + 1)
-      → w₂ ≡ within 1332 (a * b * (2 * (a * b))) (λ _. leftHalf (a * b) 0 (a * b + 1) (laid 0 (a * b * (a * b + 1)) x₁ w₀)) (laid 0 (a * b * (a * b + 1)) x₁ w₀)
+      → w₂ ≡ within inverseFrom (a * b * (2 * (a * b))) (λ _. leftHalf (a * b) 0 (a * b + 1) (laid 0 (a * b * (a * b + 1)) x₁ w₀)) (laid 0 (a * b * (a * b + 1)) x₁ w₀)
       → (x₃, t₃) ≡ solveLinearSystem (a * b) (part 0 (a * b * (a * b + 1)) w₂)
-      → (x₄, t₄) ≡ matrixInverse (a * b) (part 1332 (a * b * (2 * (a * b))) (laid 0 (a * b * (a * b + 1)) x₃ w₂))
-      → (part 0 (a * b * (a * b + 1)) (laid 1332 (a * b * (2 * (a * b))) x₄ (laid 0 (a * b * (a * b + 1)) x₃ w₂)) ≡ beta values us vs a b)
-      × (part 1332 (a * b * (2 * (a * b))) (laid 1332 (a * b * (2 * (a * b))) x₄ (laid 0 (a * b * (a * b + 1)) x₃ w₂)) ≡ inverse values us vs a b)
+      → (x₄, t₄) ≡ matrixInverse (a * b) (part inverseFrom (a * b * (2 * (a * b))) (laid 0 (a * b * (a * b + 1)) x₃ w₂))
+      → (part 0 (a * b * (a * b + 1)) (laid inverseFrom (a * b * (2 * (a * b))) x₄ (laid 0 (a * b * (a * b + 1)) x₃ w₂)) ≡ beta values us vs a b)
+      × (part inverseFrom (a * b * (2 * (a * b))) (laid inverseFrom (a * b * (2 * (a * b))) x₄ (laid 0 (a * b * (a * b + 1)) x₃ w₂)) ≡ inverse values us vs a b)
   unfolding beta inverse within
   solve-chain {x₁} {w₂} {x₃} {x₄} {t₃} {t₄} e₁ l₁ e₂ e₃ e₄ = (front, back)
     where
@@ -110,37 +111,37 @@ module _ (values : List Float) (us vs : List ℕ) (a b : ℕ) (some : 0 < a * b)
       h : List Float
       h = leftHalf p 0 (p + 1) w₁
 
-      zs : a * b * (a * b + 1) ≤ 1332
+      zs : a * b * (a * b + 1) ≤ inverseFrom
       zs = system-most (a * b) most
 
-      ks : a * b * (2 * (a * b)) ≤ 2592
+      ks : a * b * (2 * (a * b)) ≤ mostCells * (2 * mostCells)
       ks = inverse-most (a * b) most
 
       room₀ : 0 + z ≤ length w₀
       room₀ = omega (arith, zs)
 
-      long₁ : length w₁ ≡ 6400
+      long₁ : length w₁ ≡ scratchPlaces
       long₁ = laid-length 0 z x₁ w₀ room₀ l₁ ∙ long
 
-      room₁ : 1332 + k ≤ length w₁
+      room₁ : inverseFrom + k ≤ length w₁
       room₁ = omega (arith, ks, long₁)
 
       long-h : length h ≡ k
       long-h = half-length p 0 (p + 1) w₁
 
-      long₂ : length w₂ ≡ 6400
-      long₂ = ap length e₂ ∙ laid-length 1332 k h w₁ room₁ long-h ∙ long₁
+      long₂ : length w₂ ≡ scratchPlaces
+      long₂ = ap length e₂ ∙ laid-length inverseFrom k h w₁ room₁ long-h ∙ long₁
 
       room₂ : 0 + z ≤ length w₂
       room₂ = omega (arith, zs, long₂)
 
       system : part 0 z w₂ ≡ normalSystem values us vs a b
-      system = ap (part 0 z) e₂ ∙ laid-before 1332 k h w₁ room₁ long-h 0 z (omega (arith, zs)) ∙ laid-same 0 z x₁ w₀ room₀ l₁ ∙ e₁
+      system = ap (part 0 z) e₂ ∙ laid-before inverseFrom k h w₁ room₁ long-h 0 z (omega (arith, zs)) ∙ laid-same 0 z x₁ w₀ room₀ l₁ ∙ e₁
 
-      half : part 1332 k w₂ ≡ leftHalf p 0 (p + 1) (normalSystem values us vs a b)
+      half : part inverseFrom k w₂ ≡ leftHalf p 0 (p + 1) (normalSystem values us vs a b)
       half =
-          ap (part 1332 k) e₂
-          ∙ laid-same 1332 k h w₁ room₁ long-h
+          ap (part inverseFrom k) e₂
+          ∙ laid-same inverseFrom k h w₁ room₁ long-h
           ∙ half-part p 0 (p + 1) 0 z w₁ some (system-rows p)
           ∙ ap (leftHalf p 0 (p + 1)) (laid-same 0 z x₁ w₀ room₀ l₁ ∙ e₁)
 
@@ -153,65 +154,65 @@ module _ (values : List Float) (us vs : List ℕ) (a b : ℕ) (some : 0 < a * b)
       w₃ : List Float
       w₃ = laid 0 z x₃ w₂
 
-      long₃ : length w₃ ≡ 6400
+      long₃ : length w₃ ≡ scratchPlaces
       long₃ = laid-length 0 z x₃ w₂ room₂ long-x₃ ∙ long₂
 
-      room₃ : 1332 + k ≤ length w₃
+      room₃ : inverseFrom + k ≤ length w₃
       room₃ = omega (arith, ks, long₃)
 
-      inverted : x₄ ≡ matrixInverse p (part 1332 k w₃) .0
+      inverted : x₄ ≡ matrixInverse p (part inverseFrom k w₃) .0
       inverted = ap (λ (y : List Float × Bool). y .0) e₄
 
       long-x₄ : length x₄ ≡ k
-      long-x₄ = ap length inverted ∙ inverse-length p (part 1332 k w₃) ∙ length-part 1332 k w₃ room₃
+      long-x₄ = ap length inverted ∙ inverse-length p (part inverseFrom k w₃) ∙ length-part inverseFrom k w₃ room₃
 
-      front : part 0 z (laid 1332 k x₄ w₃) ≡ solveLinearSystem p (normalSystem values us vs a b) .0
+      front : part 0 z (laid inverseFrom k x₄ w₃) ≡ solveLinearSystem p (normalSystem values us vs a b) .0
       front =
-          laid-before 1332 k x₄ w₃ room₃ long-x₄ 0 z (omega (arith, zs))
+          laid-before inverseFrom k x₄ w₃ room₃ long-x₄ 0 z (omega (arith, zs))
           ∙ laid-same 0 z x₃ w₂ room₂ long-x₃
           ∙ solved
           ∙ ap (λ (y : List Float). solveLinearSystem p y .0) system
 
-      back : part 1332 k (laid 1332 k x₄ w₃) ≡ matrixInverse p (leftHalf p 0 (p + 1) (normalSystem values us vs a b)) .0
+      back : part inverseFrom k (laid inverseFrom k x₄ w₃) ≡ matrixInverse p (leftHalf p 0 (p + 1) (normalSystem values us vs a b)) .0
       back =
-          laid-same 1332 k x₄ w₃ room₃ long-x₄
+          laid-same inverseFrom k x₄ w₃ room₃ long-x₄
           ∙ inverted
-          ∙ ap (λ (y : List Float). matrixInverse p y .0) (laid-after 0 z x₃ w₂ room₂ long-x₃ 1332 k (omega (arith, zs)) ∙ half)
+          ∙ ap (λ (y : List Float). matrixInverse p y .0) (laid-after 0 z x₃ w₂ room₂ long-x₃ inverseFrom k (omega (arith, zs)) ∙ half)
 
   -- the same, where j and k are the lengths of the parts as the code works them out
   pub solve-lent : (j k : ℕ) → j ≡ a * b * (a * b + 1) → k ≡ a * b * (2 * (a * b)) → {x₁ w₂ x₃ x₄ : List Float} {t₃ t₄ : Bool}
       → x₁ ≡ normalSystem values us vs a b
       → length x₁ ≡ a * b * (a * b + 1)
-      → w₂ ≡ within 1332 (a * b * (2 * (a * b))) (λ _. leftHalf (a * b) 0 (a * b + 1) (laid 0 j x₁ w₀)) (laid 0 j x₁ w₀)
+      → w₂ ≡ within inverseFrom (a * b * (2 * (a * b))) (λ _. leftHalf (a * b) 0 (a * b + 1) (laid 0 j x₁ w₀)) (laid 0 j x₁ w₀)
       → (x₃, t₃) ≡ solveLinearSystem (a * b) (take j (drop 0 w₂))
-      → (x₄, t₄) ≡ matrixInverse (a * b) (take k (drop 1332 (laid 0 j x₃ w₂)))
-      → (part 0 (a * b * (a * b + 1)) (laid 1332 k x₄ (laid 0 j x₃ w₂)) ≡ beta values us vs a b)
-      × (part 1332 (a * b * (2 * (a * b))) (laid 1332 k x₄ (laid 0 j x₃ w₂)) ≡ inverse values us vs a b)
+      → (x₄, t₄) ≡ matrixInverse (a * b) (take k (drop inverseFrom (laid 0 j x₃ w₂)))
+      → (part 0 (a * b * (a * b + 1)) (laid inverseFrom k x₄ (laid 0 j x₃ w₂)) ≡ beta values us vs a b)
+      × (part inverseFrom (a * b * (2 * (a * b))) (laid inverseFrom k x₄ (laid 0 j x₃ w₂)) ≡ inverse values us vs a b)
   unfolding part
   solve-lent j k ej ek e₁ l₁ e₂ e₃ e₄ = rw (ej, ek) (solve-chain e₁ l₁ (rw ej at e₂) (rw ej at e₃) (rw (ej, ek) at e₄))
 
 -- the three effects, one after another: each leaves the coefficients and the inverse as they were
-module _ (values : List Float) (us vs : List ℕ) (a b : ℕ) (most : a * b ≤ 36) where
+module _ (values : List Float) (us vs : List ℕ) (a b : ℕ) (most : a * b ≤ mostCells) where
   abbrev pub front : List Float → List Float
   front w = part 0 (a * b * (a * b + 1)) w
 
   abbrev pub back : List Float → List Float
-  back w = part 1332 (a * b * (2 * (a * b))) w
+  back w = part inverseFrom (a * b * (2 * (a * b))) w
 
   abbrev pub Ready : List Float → Type 0
   Ready w = (front w ≡ beta values us vs a b) × (back w ≡ inverse values us vs a b)
 
-  still : (v w : List Float) → Ready v → take 3924 w ≡ take 3924 v → Ready w
+  still : (v w : List Float) → Ready v → take blockFrom w ≡ take blockFrom v → Ready w
   still v w r e = (
-    part-of-taken 0 (a * b * (a * b + 1)) 3924 w v (omega (arith, system-most (a * b) most)) e ∙ r .0,
-    part-of-taken 1332 (a * b * (2 * (a * b))) 3924 w v (omega (arith, inverse-most (a * b) most)) e ∙ r .1,
+    part-of-taken 0 (a * b * (a * b + 1)) blockFrom w v (omega (arith, system-most (a * b) most)) e ∙ r .0,
+    part-of-taken inverseFrom (a * b * (2 * (a * b))) blockFrom w v (omega (arith, inverse-most (a * b) most)) e ∙ r .1,
   )
 
   one : (s n : ℕ) (w : List Float) {r : Float} → Ready w → r ≡ waldSs (a * b) s n (front w) (back w) → r ≡ waldSs (a * b) s n (beta values us vs a b) (inverse values us vs a b)
   one s n w r e = e ∙ rw (r .0, r .1)
 
   abbrev pub Wald : ℕ → ℕ → Float → List Float → List Float → Type 0
-  Wald s n r v w = (r ≡ waldSs (a * b) s n (front v) (back v)) × (take 3924 w ≡ take 3924 v)
+  Wald s n r v w = (r ≡ waldSs (a * b) s n (front v) (back v)) × (take blockFrom w ≡ take blockFrom v)
 
   pub effects-chain : (w₁ w₂ w₃ w₄ : List Float) {r₁ r₂ r₃ : Float} → Ready w₁
       → Wald 1 (a - 1) r₁ w₁ w₂

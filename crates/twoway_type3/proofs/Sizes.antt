@@ -5,18 +5,19 @@ use native.Mathlib.Omega.{arith}
 use native.Mathlib.Nat.{add-mul, mul-add, mul-le-mul}
 use Rattle.base.specs.Limits.{mostCells, mostLevels}
 use Rattle.base.proofs.Bounds.{row-end, product-le}
+use Rattle.twoway_type3.specs.Inner.{inverseFrom, mostColumns}
 
 pub cells-most : (a b : ℕ) → a ≤ mostLevels → b ≤ mostLevels → a * b ≤ mostCells
 cells-most a b h k = product-le mostLevels mostLevels h k
 
-pub system-most : (p : ℕ) → p ≤ mostCells → p * (p + 1) ≤ 1332
-system-most p h = product-le 36 37 {x = p} {y = p + 1} h (omega arith)
+pub system-most : (p : ℕ) → p ≤ mostCells → p * (p + 1) ≤ inverseFrom
+system-most p h = product-le mostCells (mostCells + 1) {x = p} {y = p + 1} h (omega arith)
 
-pub inverse-most : (p : ℕ) → p ≤ mostCells → p * (2 * p) ≤ 2592
-inverse-most p h = product-le 36 72 {x = p} {y = 2 * p} h (omega arith)
+pub inverse-most : (p : ℕ) → p ≤ mostCells → p * (2 * p) ≤ mostCells * (2 * mostCells)
+inverse-most p h = product-le mostCells (2 * mostCells) {x = p} {y = 2 * p} h (omega arith)
 
-pub block-most : (n : ℕ) → n ≤ 25 → n * (2 * n) ≤ 1250
-block-most n h = product-le 25 50 {x = n} {y = 2 * n} h (omega arith)
+pub block-most : (n : ℕ) → n ≤ mostColumns → n * (2 * n) ≤ mostColumns * (2 * mostColumns)
+block-most n h = product-le mostColumns (2 * mostColumns) {x = n} {y = 2 * n} h (omega arith)
 
 -- the rows of X'X end within the system
 pub system-rows : (p : ℕ) (i : ℕ) → i < p → 0 + (i * (p + 1) + p) ≤ p * (p + 1)
@@ -37,7 +38,7 @@ cells-some a b h k = let e : 1 * 1 ≤ a * b = mul-le-mul {n₁ = 1} {m₁ = 1} 
 
 -- the columns of the interaction: some, not many, and as many as are left behind those of the factors
 abbrev pub Interaction : ℕ → ℕ → Type 0
-Interaction a b = (0 < (a - 1) * (b - 1)) × ((a - 1) * (b - 1) ≤ 25) × (a + (b - 1) + (a - 1) * (b - 1) ≡ a * b)
+Interaction a b = (0 < (a - 1) * (b - 1)) × ((a - 1) * (b - 1) ≤ mostColumns) × (a + (b - 1) + (a - 1) * (b - 1) ≡ a * b)
 
 pub columns : (a b : ℕ) → 2 ≤ a → a ≤ mostLevels → 2 ≤ b → b ≤ mostLevels → Interaction a b
 columns a b h k l m = (

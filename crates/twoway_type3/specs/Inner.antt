@@ -1,11 +1,11 @@
 -- What the code keeps between its steps. No public contract cites these words.
-use Prim.Native.Nat.{ℕ, _*_, _/_, _%_, _≤_, _+_}
+use Prim.Native.Nat.{ℕ, _*_, _/_, _%_, _≤_, _+_, _-_}
 use mathlib.Core.List.{List}
 use lib.Ieee.{Float}
 use Rattle.twoway_type3.specs.Matrices.{halfOf}
 use mathlib.Core.Path.{_≡_}
 use lib.ListN.{length, set}
-use Rattle.base.specs.Limits.{mostReadings, mostLevels}
+use Rattle.base.specs.Limits.{mostReadings, mostLevels, mostCells}
 use Rattle.base.specs.Loop.{loop}
 use Rattle.float.specs.Words.{_⊕_, _⊗_}
 use Rattle.matrix_linear.specs.Rows.{at}
@@ -13,6 +13,18 @@ use Rattle.matrix_linear.specs.Rows.{at}
 -- its place q
 abbrev pub halfAt : ℕ → ℕ → ℕ → List Float → ℕ → Float
 halfAt n from w m q = halfOf n from w m (q / (2 * n)) (q % (2 * n))
+
+-- where the inverse lies in the lent memory: behind a system of the most cells
+abbrev pub inverseFrom : ℕ
+inverseFrom = mostCells * (mostCells + 1)
+
+-- where an effect's block lies: behind an inverse of the most cells
+abbrev pub blockFrom : ℕ
+blockFrom = inverseFrom + mostCells * (2 * mostCells)
+
+-- the most columns of an effect: those of the interaction
+abbrev pub mostColumns : ℕ
+mostColumns = (mostLevels - 1) * (mostLevels - 1)
 
 -- the same of the readings and the codes, as facts
 pub record Fitting (values : List Float) (us vs : List ℕ) (a b : ℕ) : Type 0 where

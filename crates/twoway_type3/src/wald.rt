@@ -7,14 +7,14 @@ ghost use Prim.Native.Nat.{_+_, _*_, _≤_, _<_};
 ghost use lib.ListN.{length, take};
 ghost use Rattle.base.specs.Limits.{mostCells, scratchPlaces};
 ghost use Rattle.base.specs.Lists.{part};
-ghost use Rattle.twoway_type3.specs.Inner.{Fitting};
+ghost use Rattle.twoway_type3.specs.Inner.{Fitting, inverseFrom, blockFrom, mostColumns};
 ghost use Rattle.twoway_type3.specs.Wald.{waldRow, waldSum, waldSs};
 ghost use Rattle.twoway_type3.specs.Answer.{beta, inverse, allEffects};
 
 // Where the inverse of X'X lies, behind the system, and where an effect's block lies, behind both.
-const INVERSE: usize = 1332;
+const INVERSE: usize = base::MOST_CELLS * (base::MOST_CELLS + 1);
 
-const BLOCK: usize = 3924;
+const BLOCK: usize = INVERSE + base::MOST_CELLS * (2 * base::MOST_CELLS);
 
 // The products of coefficient s + i with row i of the inverted block, added to ss.
 fn wald_row(beta: &[f64], cov: &[f64], p: usize, s: usize, n: usize, i: usize, ss: f64) -> f64
@@ -42,8 +42,8 @@ fn wald_sum(beta: &[f64], cov: &[f64], p: usize, s: usize, n: usize) -> f64
 
 // The sum of squares of the effect with the n columns from s on.
 fn wald_ss(work: &mut [f64], p: usize, s: usize, n: usize) -> f64
-    requires { ⌜ (0 < n) × (n ≤ 25) × (s + n ≤ p) × (p ≤ mostCells) × (length (now work) ≡ scratchPlaces) ⌝ }
-    ensures { λ r. ⌜ (r ≡ waldSs p s n (part 0 (p * (p + 1)) (now (work .entry))) (part 1332 (p * (2 * p)) (now (work .entry)))) × (take 3924 (now (work .exit)) ≡ take 3924 (now (work .entry))) ⌝ }
+    requires { ⌜ (0 < n) × (n ≤ mostColumns) × (s + n ≤ p) × (p ≤ mostCells) × (length (now work) ≡ scratchPlaces) ⌝ }
+    ensures { λ r. ⌜ (r ≡ waldSs p s n (part 0 (p * (p + 1)) (now (work .entry))) (part inverseFrom (p * (2 * p)) (now (work .entry)))) × (take blockFrom (now (work .exit)) ≡ take blockFrom (now (work .entry))) ⌝ }
 {
     left_half(work, BLOCK, n, INVERSE + (s * (2 * p) + (p + s)), 2 * p);
     let end = BLOCK + n * (2 * n);
@@ -54,7 +54,7 @@ fn wald_ss(work: &mut [f64], p: usize, s: usize, n: usize) -> f64
 // The coefficients, in the last column of the system, and behind it the inverse of X'X, on the right of its rows.
 fn solve(values: &[f64], factor_a: &[u32], factor_b: &[u32], a: usize, b: usize, work: &mut [f64])
     requires { ⌜ Fitting (now values) (now «factor_a») (now «factor_b») a b × (length (now work) ≡ scratchPlaces) ⌝ }
-    ensures { λ _. ⌜ (part 0 (a * b * (a * b + 1)) (now (work .exit)) ≡ beta (now (values .entry)) (now («factor_a» .entry)) (now («factor_b» .entry)) a b) × (part 1332 (a * b * (2 * (a * b))) (now (work .exit)) ≡ inverse (now (values .entry)) (now («factor_a» .entry)) (now («factor_b» .entry)) a b) ⌝ }
+    ensures { λ _. ⌜ (part 0 (a * b * (a * b + 1)) (now (work .exit)) ≡ beta (now (values .entry)) (now («factor_a» .entry)) (now («factor_b» .entry)) a b) × (part inverseFrom (a * b * (2 * (a * b))) (now (work .exit)) ≡ inverse (now (values .entry)) (now («factor_a» .entry)) (now («factor_b» .entry)) a b) ⌝ }
 {
     let p = a * b;
     let z = p * (p + 1);

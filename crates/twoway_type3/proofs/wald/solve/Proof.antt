@@ -2,6 +2,8 @@
 use Prim.Native.Nat.{_-_, _+_, _*_, _<_, _≤_}
 use native.Mathlib.Omega.{arith}
 use borrow.Author.Needs.{needs}
+use Rattle.base.specs.Limits.{mostCells}
+use Rattle.twoway_type3.specs.Inner.{inverseFrom}
 use Rattle.twoway_type3.proofs.Chains.{solve-lent}
 use Rattle.twoway_type3.proofs.Sizes.{cells-most, cells-some, system-most, inverse-most, system-rows}
 use Rattle.twoway_type3.proofs.wald.solve.Statement.{statement}
@@ -15,7 +17,7 @@ abbrev equations : tie.After-slice-known3 → tie.After-normal-system
 equations c = c .before .before .before .before .before .before
 
 -- how much room the matrices take
-sizes : (s : tie.Start) → (let p = s .args .a * s .args .b in (0 < p) × (p ≤ 36) × (p * (p + 1) ≤ 1332) × (p * (2 * p) ≤ 2592))
+sizes : (s : tie.Start) → (let p = s .args .a * s .args .b in (0 < p) × (p ≤ mostCells) × (p * (p + 1) ≤ inverseFrom) × (p * (2 * p) ≤ mostCells * (2 * mostCells)))
 sizes s =
     let f = s .pre .0 in
     let p = cells-most (s .args .a) (s .args .b) (f .most-a) (f .most-b) in
@@ -95,7 +97,7 @@ returns c = let m = c .before .before in
     let s = n .before .before .before .before .before .before in
     let p = s .args .a * s .args .b in
     let k = sizes s in
-    solve-lent (s .args .values .now) (s .args .factor-a .now) (s .args .factor-b .now) (s .args .a) (s .args .b) (k .0) (k .1) (s .args .work .now) (s .pre .1) (p * (p + 1) - 0) (1332 + p * (2 * p) - 1332) (omega arith) (omega arith) (n .normal-system .ensures) (omega arith) (h .left-half .ensures) (o .solve-linear-system .ensures) (m .matrix-inverse .ensures)
+    solve-lent (s .args .values .now) (s .args .factor-a .now) (s .args .factor-b .now) (s .args .a) (s .args .b) (k .0) (k .1) (s .args .work .now) (s .pre .1) (p * (p + 1) - 0) (inverseFrom + p * (2 * p) - inverseFrom) (omega arith) (omega arith) (n .normal-system .ensures) (omega arith) (h .left-half .ensures) (o .solve-linear-system .ensures) (m .matrix-inverse .ensures)
 
 pub solve-spec : {M : Type 1} → statement M
 solve-spec =

@@ -2,6 +2,7 @@
 use Prim.Native.Nat.{_-_, _+_, _*_}
 use native.Mathlib.Omega.{arith}
 use borrow.Author.Needs.{needs}
+use Rattle.twoway_type3.specs.Inner.{blockFrom}
 use Rattle.twoway_type3.proofs.Chains.{wald-lent}
 use Rattle.twoway_type3.proofs.Sizes.{block-start, block-rows, block-most, inverse-most, system-most}
 use Rattle.twoway_type3.proofs.wald.wald_ss.Statement.{statement}
@@ -107,7 +108,7 @@ returns c =
     let at-inverse = at-use .before .before in
     let at-half = at-inverse .before .before .before .before in
     let s = at-sum at-use in
-    wald-lent (s .args .p) (s .args .s) (s .args .n) (s .pre .0) (s .pre .1) (s .pre .2) (s .pre .3) (s .args .work .now) (s .pre .4) (s .args .p * (s .args .p + 1) - 0) (3924 + s .args .n * (2 * s .args .n) - 3924) (omega arith) (omega arith) (at-half .left-half .ensures) (at-inverse .matrix-inverse .ensures) (c .wald-sum .ensures)
+    wald-lent (s .args .p) (s .args .s) (s .args .n) (s .pre .0) (s .pre .1) (s .pre .2) (s .pre .3) (s .args .work .now) (s .pre .4) (s .args .p * (s .args .p + 1) - 0) (blockFrom + s .args .n * (2 * s .args .n) - blockFrom) (omega arith) (omega arith) (at-half .left-half .ensures) (at-inverse .matrix-inverse .ensures) (c .wald-sum .ensures)
 
 pub wald-ss-spec : {M : Type 1} → statement M
 wald-ss-spec =
