@@ -1,4 +1,4 @@
--- `bench::bench_fisher` meets its contract.
+-- The call is `bench` with Fisher's kind, and so is the definition.
 use borrow.Author.Needs.{needs}
 use Rattle.bench.proofs.bench_fisher.Statement.{statement}
 use Rattle.bench.proofs.bench_fisher.Tie as tie

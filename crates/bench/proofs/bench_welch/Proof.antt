@@ -1,4 +1,4 @@
--- `bench::bench_welch` meets its contract.
+-- The call is `bench` with Welch's kind, and so is the definition.
 use borrow.Author.Needs.{needs}
 use Rattle.bench.proofs.bench_welch.Statement.{statement}
 use Rattle.bench.proofs.bench_welch.Tie as tie

@@ -1,4 +1,4 @@
--- `lent::used` meets its contract.
+-- Each end of the test is one case of the least of two numbers.
 use native.Mathlib.Omega.{arith}
 use Rattle.lent.proofs.used.Statement.{statement}
 use Rattle.lent.proofs.used.Tie as tie

@@ -1,4 +1,4 @@
--- `oneway_rows::refused` meets its contract.
+-- The rows are 16 times `Row::empty`, and so are the definition's.
 use Prim.Native.Nat.{_-_}
 use borrow.Author.Needs.{needs}
 use Rattle.oneway_rows.specs.Rows.{emptyRows}

@@ -1,4 +1,4 @@
--- `repeated::refused` meets its contract.
+-- All fields are zeros, as in the definition: those of four rows by `no_row`, those of the corrections by `no_corrections`.
 use Prim.Native.Nat.{_-_}
 use borrow.Author.Needs.{needs}
 use Rattle.repeated.proofs.refused.Statement.{statement}

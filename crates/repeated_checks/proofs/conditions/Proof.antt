@@ -1,4 +1,4 @@
--- `repeated_checks::conditions` meets its contract.
+-- The first size is the definition's number, and where there is none both say 0 (`none-first`).
 use Prim.Native.Nat.{_-_}
 use native.Mathlib.Omega.{arith}
 use borrow.Author.Needs.{needs}

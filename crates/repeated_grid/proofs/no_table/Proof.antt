@@ -1,4 +1,4 @@
--- `repeated_grid::no_table` meets its contract.
+-- All fields are zeros, as in the definition.
 use Prim.Native.Nat.{_-_}
 use mathlib.Core.Path.{refl}
 use Rattle.repeated_grid.specs.Table.{noSubjects, noConditions}

@@ -1,4 +1,4 @@
--- `repeated_sphericity::corrected` meets its contract.
+-- The fields are the definition's products; `canon` gives back what it takes.
 use Prim.Native.Nat.{_-_}
 use borrow.Author.Needs.{needs}
 use Rattle.repeated_sphericity.proofs.corrected.Statement.{statement}

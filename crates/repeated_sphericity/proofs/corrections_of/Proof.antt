@@ -1,4 +1,4 @@
--- `repeated_sphericity::corrections_of` meets its contract.
+-- Each of the five calls is one part of the definition.
 use Prim.Native.Nat.{_-_}
 use native.Mathlib.Omega.{arith}
 use borrow.Author.Needs.{needs}

@@ -1,4 +1,4 @@
--- `results::effect_row` meets its contract.
+-- The fields are the definition's; `canon` gives back what it takes.
 use Prim.Native.Nat.{_-_}
 use borrow.Author.Needs.{needs}
 use Rattle.results.proofs.effect_row.Statement.{statement}

@@ -1,4 +1,4 @@
--- `results::no_corrected` meets its contract.
+-- All fields are zeros, as in the definition.
 use mathlib.Core.Path.{refl}
 use Rattle.results.proofs.no_corrected.Statement.{statement}
 use Rattle.results.proofs.no_corrected.Tie as tie

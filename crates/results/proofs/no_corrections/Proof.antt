@@ -1,4 +1,4 @@
--- `results::no_corrections` meets its contract.
+-- All fields are zeros, as in the definition: those of both epsilons by `no_corrected`.
 use Prim.Native.Nat.{_-_}
 use borrow.Author.Needs.{needs}
 use Rattle.results.proofs.no_corrections.Statement.{statement}

@@ -1,4 +1,4 @@
--- `results::plain_row` meets its contract.
+-- The fields are the definition's; `canon` gives back what it takes.
 use Prim.Native.Nat.{_-_}
 use borrow.Author.Needs.{needs}
 use Rattle.results.proofs.plain_row.Statement.{statement}

@@ -1,4 +1,4 @@
--- `speed_oneway::speed_fisher` meets its contract.
+-- The call is `analyse` with Fisher's kind, and so is the definition.
 use borrow.Author.Needs.{needs}
 use Rattle.speed_oneway.proofs.speed_fisher.Statement.{statement}
 use Rattle.speed_oneway.proofs.speed_fisher.Tie as tie

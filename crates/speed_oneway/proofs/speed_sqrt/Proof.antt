@@ -1,4 +1,4 @@
--- `speed_oneway::speed_sqrt` meets its contract.
+-- It is one call of `root::sqrt`.
 use borrow.Author.Needs.{needs}
 use Rattle.speed_oneway.proofs.speed_sqrt.Statement.{statement}
 use Rattle.speed_oneway.proofs.speed_sqrt.Tie as tie

@@ -1,4 +1,4 @@
--- `speed_oneway::speed_welch` meets its contract.
+-- The call is `analyse` with Welch's kind, and so is the definition.
 use borrow.Author.Needs.{needs}
 use Rattle.speed_oneway.proofs.speed_welch.Statement.{statement}
 use Rattle.speed_oneway.proofs.speed_welch.Tie as tie

@@ -1,4 +1,4 @@
--- `speed_sheet::speed_history_welch` meets its contract.
+-- The call is `history` with Welch's kind, and so is the definition.
 use borrow.Author.Needs.{needs}
 use Rattle.speed_sheet.proofs.speed_history_welch.Statement.{statement}
 use Rattle.speed_sheet.proofs.speed_history_welch.Tie as tie

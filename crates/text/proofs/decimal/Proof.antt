@@ -1,4 +1,4 @@
--- `text::decimal` meets its contract.
+-- As many places are filled as `width` counts, and those are the digits of the number (`gathered`).
 use native.Mathlib.Omega.{arith}
 use borrow.Author.Needs.{needs}
 use Rattle.text.proofs.Numerals.{width-fits, gathered}

@@ -1,4 +1,4 @@
--- `text::digit` meets its contract.
+-- The test at 10 is the definition's own, and neither sum leaves a byte.
 use native.Mathlib.Omega.{arith}
 use borrow.Author.Needs.{needs}
 use borrow.Author.Tests.{lt-ltb, le-ltb}

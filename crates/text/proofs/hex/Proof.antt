@@ -1,4 +1,4 @@
--- `text::hex` meets its contract.
+-- `fill` leaves 16 digits of base 16 in 16 places, which is the definition.
 use borrow.Author.Needs.{needs}
 use Rattle.text.specs.Numbers.{hexOf, digits}
 use Rattle.text.proofs.hex.Statement.{statement}

@@ -1,4 +1,4 @@
--- `text::put_decimal` meets its contract.
+-- `decimal` gives the digits and how many, and `put` puts that many of them.
 use mathlib.Core.Path.{sym, ap, _∙_}
 use borrow.Author.Needs.{needs}
 use lib.Seq.{length-take-le}

@@ -1,4 +1,4 @@
--- `text::put_hex` meets its contract.
+-- `hex` gives the 16 digits, and `put` puts them.
 use mathlib.Core.Path.{_∙_, ap}
 use borrow.Author.Needs.{needs}
 use Rattle.text.specs.Put.{putOf}

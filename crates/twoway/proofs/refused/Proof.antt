@@ -1,4 +1,4 @@
--- `twoway::refused` meets its contract.
+-- All fields but the refusal are zeros, as in the definition: those of five rows by `no_row`.
 use Prim.Native.Nat.{_-_}
 use borrow.Author.Needs.{needs}
 use Rattle.twoway.specs.Results.{refusedResult}

@@ -1,4 +1,4 @@
--- `twoway_means::no_table` meets its contract.
+-- All fields are zeros, as in the definition.
 use Prim.Native.Nat.{_-_}
 use mathlib.Core.Path.{refl}
 use Rattle.twoway_means.specs.Table.{noCells, noLevels}

@@ -1,4 +1,4 @@
--- `base::Refusal::new` meets its contract.
+-- The struct has the three numbers that `refuse` puts together.
 use mathlib.Core.Path.{refl}
 use Rattle.base.proofs.Refusal.new.Statement.{statement}
 use Rattle.base.proofs.Refusal.new.Tie as tie

@@ -1,4 +1,4 @@
--- `base::Refusal::none` meets its contract.
+-- Three zeros are the definition.
 use mathlib.Core.Path.{refl}
 use Rattle.base.proofs.Refusal.none.Statement.{statement}
 use Rattle.base.proofs.Refusal.none.Tie as tie

@@ -1,4 +1,4 @@
--- `matrix_eigen::qr::less_column` meets its contract.
+-- A turn changes place k as the definition's step does, and place k * n + i lies before the end of row k.
 use Prim.Native.Nat.{_≤_, _-_, _+_, _*_}
 use mathlib.Core.Path.{refl, _≡_}
 use native.Mathlib.Omega.{arith}

@@ -1,4 +1,4 @@
--- `matrix_eigen::qr::take_column` meets its contract.
+-- A turn copies place k * n + j as the definition's step does, and that place lies before the end of row k.
 use Prim.Native.Nat.{_≤_, _-_, _+_, _*_}
 use mathlib.Core.Path.{refl, _≡_}
 use native.Mathlib.Omega.{arith}

@@ -1,4 +1,4 @@
--- `matrix_eigen::values::diagonal` meets its contract.
+-- A turn copies place i * n + i as the definition's step does, and that place lies before the end of row i.
 use Prim.Native.Nat.{_≤_, _-_, _+_, _*_}
 use mathlib.Core.Path.{refl, _≡_}
 use native.Mathlib.Omega.{arith}

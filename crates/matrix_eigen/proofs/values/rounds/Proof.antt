@@ -1,4 +1,4 @@
--- `matrix_eigen::values::rounds` meets its contract.
+-- A turn is one call of `round`, which is the definition's step, and there are a hundred.
 use Prim.Native.Nat.{_-_}
 use mathlib.Core.Path.{refl, _≡_}
 use native.Mathlib.Omega.{arith}

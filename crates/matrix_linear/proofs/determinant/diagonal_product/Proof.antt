@@ -1,4 +1,4 @@
--- `matrix_linear::determinant::diagonal_product` meets its contract.
+-- A turn multiplies by place i * n + i as the definition's step does, and that place lies before the end of row i.
 use lib.ListN.{length}
 use Prim.Native.Nat.{_-_, _≤_, _+_, _*_}
 use mathlib.Core.Path.{_≡_, refl}

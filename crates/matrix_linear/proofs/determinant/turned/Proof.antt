@@ -1,4 +1,4 @@
--- `matrix_linear::determinant::turned` meets its contract.
+-- The test of the two rows is the definition's own.
 use borrow.Author.Tests.{eq-eqb, ne-eqb}
 use mathlib.Core.Path.{refl}
 use Rattle.base.proofs.Bounds.{then-of, else-of}

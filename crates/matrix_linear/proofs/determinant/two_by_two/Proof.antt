@@ -1,4 +1,4 @@
--- `matrix_linear::determinant::two_by_two` meets its contract.
+-- The code is the definition's formula over the four places.
 use mathlib.Core.Path.{refl}
 use native.Mathlib.Omega.{arith}
 use Rattle.matrix_linear.specs.Determinant.{twoByTwo}

@@ -1,4 +1,4 @@
--- `matrix_linear::inverse::full_columns` meets its contract.
+-- A turn is one call of `full_column`, which is the definition's step.
 use Prim.Native.Nat.{_≤_, _-_, _*_}
 use mathlib.Core.Path.{_≡_}
 use native.Mathlib.Omega.{arith}

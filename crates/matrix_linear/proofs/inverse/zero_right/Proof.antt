@@ -1,4 +1,4 @@
--- `matrix_linear::inverse::zero_right` meets its contract.
+-- A turn clears one place of the right half as the definition's step does.
 use Prim.Native.Nat.{_-_, _+_, _*_}
 use mathlib.Core.Path.{_≡_}
 use native.Mathlib.Omega.{arith}

@@ -1,4 +1,4 @@
--- `matrix_linear::place::skips` meets its contract.
+-- `abs_at` gives the definition's absolute value, and both test it against the same bound.
 use mathlib.Core.Path.{ap}
 use borrow.Author.Needs.{needs}
 use lib.Ieee.{Float, lt}

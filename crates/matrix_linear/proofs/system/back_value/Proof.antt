@@ -1,4 +1,4 @@
--- `matrix_linear::system::back_value` meets its contract.
+-- `skips` decides as the definition does; where it does not skip, `back_sum` gives what is divided.
 use lib.ListN.{length}
 use Prim.Native.Nat.{_≤_, _+_, _*_}
 use native.Mathlib.Omega.{arith}

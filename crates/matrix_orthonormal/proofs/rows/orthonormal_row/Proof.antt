@@ -1,4 +1,4 @@
--- `matrix_orthonormal::rows::orthonormal_row` meets its contract.
+-- The two calls are the definition's two steps: first less the rows above, then over the norm (`row-done`).
 use Prim.Native.Nat.{_-_}
 use borrow.Author.Needs.{needs}
 use Rattle.matrix_orthonormal.proofs.Steps.{row-done}

@@ -1,4 +1,4 @@
--- `matrix_orthonormal::rows::orthonormal_rows` meets its contract.
+-- A turn is one call of `orthonormal_row`, which is the definition's step, and row i lies within the memory.
 use Prim.Native.Nat.{_≤_, _-_, _+_, _*_}
 use mathlib.Core.Path.{refl, _≡_}
 use native.Mathlib.Omega.{arith}

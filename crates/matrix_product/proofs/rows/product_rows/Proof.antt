@@ -1,4 +1,4 @@
--- `matrix_product::rows::product_rows` meets its contract.
+-- A turn is one call of `product_row`, which is the definition's step, and row i lies within both memories.
 use Prim.Native.Nat.{_-_, _*_}
 use mathlib.Core.Path.{refl, _≡_}
 use native.Mathlib.Omega.{arith}

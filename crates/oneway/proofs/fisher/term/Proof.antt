@@ -1,4 +1,4 @@
--- `oneway::fisher::term` meets its contract.
+-- Each case of the enum is one line of the definition.
 use Prim.Native.Nat.{_-_}
 use borrow.Author.Needs.{needs}
 use Rattle.oneway.proofs.fisher.term.Statement.{statement}

@@ -1,4 +1,4 @@
--- `oneway_rows::Row::empty` meets its contract.
+-- A size of 0 and two +0.0 are the definition.
 use mathlib.Core.Path.{refl}
 use Rattle.oneway_rows.proofs.Row.empty.Statement.{statement}
 use Rattle.oneway_rows.proofs.Row.empty.Tie as tie

@@ -1,4 +1,4 @@
--- `repeated::answer::asked` meets its contract.
+-- The test of the conditions is asked only where sphericity is, as `and` does.
 use Prim.Native.Nat.{_-_}
 use Rattle.repeated.proofs.answer.asked.Statement.{statement}
 use Rattle.repeated.proofs.answer.asked.Tie as tie

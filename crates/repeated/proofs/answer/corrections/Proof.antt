@@ -1,4 +1,4 @@
--- `repeated::answer::corrections` meets its contract.
+-- The flag decides as in the definition, and each branch is one call that gives its case.
 use Prim.Native.Nat.{_-_}
 use borrow.Author.Needs.{needs}
 use Rattle.repeated.proofs.answer.corrections.Statement.{statement}

@@ -1,4 +1,4 @@
--- `repeated_contrasts::differences::contrast_row` meets its contract.
+-- The two places of the row that are written are those of the definition.
 use Prim.Native.Nat.{_-_}
 use mathlib.Core.Path.{refl}
 use native.Mathlib.Omega.{arith}

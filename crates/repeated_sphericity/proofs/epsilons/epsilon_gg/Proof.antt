@@ -1,4 +1,4 @@
--- `repeated_sphericity::epsilons::epsilon_gg` meets its contract.
+-- The calls are the definition's, from the inside out: the estimate, the lower bound, the upper one.
 use Prim.Native.Nat.{_-_}
 use native.Mathlib.Omega.{arith}
 use borrow.Author.Needs.{needs}

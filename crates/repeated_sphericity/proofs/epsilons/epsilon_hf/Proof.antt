@@ -1,4 +1,4 @@
--- `repeated_sphericity::epsilons::epsilon_hf` meets its contract.
+-- `usable` decides as the definition does; each branch is its case (`hf-used`, `hf-left`).
 use Prim.Native.Nat.{_-_}
 use borrow.Author.Needs.{needs}
 use Rattle.repeated_sphericity.proofs.Choices.{hf-used, hf-left}

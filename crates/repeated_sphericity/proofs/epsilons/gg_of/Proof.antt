@@ -1,4 +1,4 @@
--- `repeated_sphericity::epsilons::gg_of` meets its contract.
+-- The two calls are the definition's: the eigenvalues, then epsilon from them.
 use Prim.Native.Nat.{_-_}
 use native.Mathlib.Omega.{arith}
 use borrow.Author.Needs.{needs}

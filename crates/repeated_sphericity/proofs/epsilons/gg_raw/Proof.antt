@@ -1,4 +1,4 @@
--- `repeated_sphericity::epsilons::gg_raw` meets its contract.
+-- The test of the squared sum is the definition's own; each branch is its case (`gg-above`, `gg-below`).
 use Prim.Native.Nat.{_-_}
 use native.Mathlib.Omega.{arith}
 use borrow.Author.Needs.{needs}

@@ -1,4 +1,4 @@
--- `repeated_sphericity::epsilons::hf_raw` meets its contract.
+-- The code is the definition's formula; the two counts are small enough to be doubles.
 use Prim.Native.Nat.{_-_}
 use mathlib.Core.Path.{refl}
 use native.Mathlib.Omega.{arith}

@@ -1,4 +1,4 @@
--- `repeated_sphericity::epsilons::usable` meets its contract.
+-- `is_finite` decides as the definition does, and what is left is its test against 0.
 use Prim.Native.Nat.{_-_}
 use borrow.Author.Needs.{needs}
 use Rattle.repeated_sphericity.specs.Epsilons.{usable}

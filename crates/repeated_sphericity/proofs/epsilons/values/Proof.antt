@@ -1,4 +1,4 @@
--- `repeated_sphericity::epsilons::values` meets its contract.
+-- The call's equation says all its lent memory; the eigenvalues are its second list.
 use Prim.Native.Nat.{_-_}
 use mathlib.Core.Path.{ap}
 use borrow.Author.Needs.{needs}

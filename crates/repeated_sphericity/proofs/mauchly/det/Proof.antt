@@ -1,4 +1,4 @@
--- `repeated_sphericity::mauchly::det` meets its contract.
+-- The call's equation says the memory and the determinant; this is its second part.
 use Prim.Native.Nat.{_-_}
 use mathlib.Core.Path.{ap}
 use borrow.Author.Needs.{needs}

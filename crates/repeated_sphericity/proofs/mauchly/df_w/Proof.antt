@@ -1,4 +1,4 @@
--- `repeated_sphericity::mauchly::df_w` meets its contract.
+-- The code is the definition's formula; its whole number is small enough not to wrap and to be a double.
 use Prim.Native.Nat.{ℕ, _≤_, _-_, _+_}
 use mathlib.Core.Path.{refl}
 use native.Mathlib.Omega.{arith}

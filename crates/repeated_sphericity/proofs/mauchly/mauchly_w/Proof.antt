@@ -1,4 +1,4 @@
--- `repeated_sphericity::mauchly::mauchly_w` meets its contract.
+-- The two calls are the definition's: the raw W, then the clamp.
 use Prim.Native.Nat.{_-_}
 use borrow.Author.Needs.{needs}
 use Rattle.repeated_sphericity.specs.Mauchly.{mauchlyW}

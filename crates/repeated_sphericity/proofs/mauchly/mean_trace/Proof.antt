@@ -1,4 +1,4 @@
--- `repeated_sphericity::mauchly::mean_trace` meets its contract.
+-- The call is the definition's sum of the diagonal, and the division is its own.
 use Prim.Native.Nat.{_-_}
 use native.Mathlib.Omega.{arith}
 use borrow.Author.Needs.{needs}

@@ -1,4 +1,4 @@
--- `repeated_sphericity::mauchly::sphericity_of` meets its contract.
+-- Each field is one call, which is that field of the definition.
 use Prim.Native.Nat.{_-_}
 use borrow.Author.Needs.{needs}
 use Rattle.repeated_sphericity.proofs.mauchly.sphericity_of.Statement.{statement}

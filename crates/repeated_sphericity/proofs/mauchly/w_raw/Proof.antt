@@ -1,4 +1,4 @@
--- `repeated_sphericity::mauchly::w_raw` meets its contract.
+-- The test of the mean is the definition's own; each branch is its case (`w-above`, `w-below`).
 use Prim.Native.Nat.{_-_}
 use native.Mathlib.Omega.{arith}
 use borrow.Author.Needs.{needs}

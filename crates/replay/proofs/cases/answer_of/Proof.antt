@@ -1,4 +1,4 @@
--- `replay::cases::answer_of` meets its contract.
+-- A sound head's counts are at most 600 each, so each part of the codes and of the readings lies within its list.
 use Prim.Native.Nat.{_-_}
 use native.Mathlib.Omega.{arith}
 use borrow.Author.Needs.{needs}

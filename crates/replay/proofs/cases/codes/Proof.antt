@@ -1,4 +1,4 @@
--- `replay::cases::codes` meets its contract.
+-- Code i is read 24 + 4 * i bytes on, before the n codes end.
 use Prim.Native.Nat.{_≤_, _-_}
 use mathlib.Core.Path.{_≡_}
 use native.Mathlib.Omega.{arith}

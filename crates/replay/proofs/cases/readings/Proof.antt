@@ -1,4 +1,4 @@
--- `replay::cases::readings` meets its contract.
+-- Reading i is read 8 * i bytes on, before the n readings end.
 use Prim.Native.Nat.{_≤_, _-_}
 use mathlib.Core.Path.{_≡_}
 use native.Mathlib.Omega.{arith}

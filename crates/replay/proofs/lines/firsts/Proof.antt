@@ -1,4 +1,4 @@
--- `replay::lines::firsts` meets its contract.
+-- The part of n doubles is taken only where there are so many.
 use Prim.Native.Nat.{_-_}
 use native.Mathlib.Omega.{arith}
 use borrow.Author.Needs.{needs}

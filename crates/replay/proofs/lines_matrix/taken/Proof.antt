@@ -1,4 +1,4 @@
--- `replay::lines_matrix::taken` meets its contract.
+-- At most 11 rows of at most 12 places are at most 132 (`product-le`).
 use Prim.Native.Nat.{_-_}
 use native.Mathlib.Omega.{arith}
 use borrow.Author.Needs.{needs}

@@ -1,4 +1,4 @@
--- `replay::lines_oneway::each_size` meets its contract.
+-- There are at most 16 groups, and the list has 16 places.
 use Prim.Native.Nat.{_≤_, _-_}
 use native.Mathlib.Omega.{arith}
 use borrow.Author.Needs.{needs}

@@ -1,4 +1,4 @@
--- `replay::lines_sheet::edited` meets its contract.
+-- An edit takes three numbers and at most one reading, so the readings used are never more than the numbers read.
 use Prim.Native.Nat.{_≤_, _-_}
 use native.Mathlib.Omega.{arith}
 use borrow.Author.Needs.{needs}

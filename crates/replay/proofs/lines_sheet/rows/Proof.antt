@@ -1,4 +1,4 @@
--- `replay::lines_sheet::rows` meets its contract.
+-- Rows are read only where there are at most 16, which the list has.
 use Prim.Native.Nat.{_≤_, _-_}
 use native.Mathlib.Omega.{arith}
 use borrow.Author.Needs.{needs}

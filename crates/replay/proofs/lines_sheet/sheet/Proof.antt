@@ -1,4 +1,4 @@
--- `replay::lines_sheet::sheet` meets its contract.
+-- The readings are cut at the smaller of the option and their number, so both parts are there.
 use Prim.Native.Nat.{_-_}
 use native.Mathlib.Omega.{arith}
 use borrow.Author.Needs.{needs}

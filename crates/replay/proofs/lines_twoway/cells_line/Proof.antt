@@ -1,4 +1,4 @@
--- `replay::lines_twoway::cells_line` meets its contract.
+-- At most 6 levels by at most 6 are at most 36 cells (`product-le`), which the list has.
 use Prim.Native.Nat.{_-_}
 use native.Mathlib.Omega.{arith}
 use borrow.Author.Needs.{needs}

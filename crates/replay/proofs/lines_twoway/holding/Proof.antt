@@ -1,4 +1,4 @@
--- `replay::lines_twoway::holding` meets its contract.
+-- A turn finds at most one place, so the count is never above the places seen.
 use Prim.Native.Nat.{_≤_, _-_}
 use native.Mathlib.Omega.{arith}
 use borrow.Author.Needs.{needs}

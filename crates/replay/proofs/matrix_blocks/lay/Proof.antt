@@ -1,4 +1,4 @@
--- `replay::matrix_blocks::lay` meets its contract.
+-- Rows of a block are at most 48 places apart and 24 long, so no place of row i is beyond the memory's end.
 use Prim.Native.Nat.{_-_}
 use native.Mathlib.Omega.{arith}
 use borrow.Author.Needs.{needs}

@@ -1,4 +1,4 @@
--- `replay::matrix_blocks::lay_row` meets its contract.
+-- Place j of the row lies within the memory, which keeps its length.
 use Prim.Native.Nat.{_≤_, _-_}
 use mathlib.Core.Path.{_≡_}
 use native.Mathlib.Omega.{arith}

@@ -1,4 +1,4 @@
--- `replay::matrix_blocks::put` meets its contract.
+-- Rows of a block are at most 48 places apart, so each part of a row lies within the memory.
 use Prim.Native.Nat.{_-_}
 use native.Mathlib.Omega.{arith}
 use borrow.Author.Needs.{needs}

@@ -1,4 +1,4 @@
--- `replay::matrix_blocks::side` meets its contract.
+-- The option is below a small bound, so neither product wraps (`product-le`).
 use Prim.Native.Nat.{_≤_, _-_, _+_}
 use native.Mathlib.Omega.{arith}
 use borrow.Author.Needs.{needs}

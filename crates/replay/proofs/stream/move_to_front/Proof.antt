@@ -1,4 +1,4 @@
--- `replay::stream::move_to_front` meets its contract.
+-- Byte from + i is there, as the caller says of the last one, and the buffer keeps its length.
 use Prim.Native.Nat.{_≤_, _-_}
 use mathlib.Core.Path.{_≡_}
 use native.Mathlib.Omega.{arith}

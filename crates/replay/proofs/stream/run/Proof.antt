@@ -1,4 +1,4 @@
--- `replay::stream::run` meets its contract.
+-- A turn keeps the marks within the buffer (`Inside`), and each takes one of the turns that are left.
 use Prim.Native.Nat.{_-_}
 use mathlib.Core.Path.{_≡_}
 use native.Mathlib.Omega.{arith}

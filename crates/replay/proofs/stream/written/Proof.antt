@@ -1,4 +1,4 @@
--- `replay::stream::written` meets its contract.
+-- The part to write is taken only where it lies within the buffer.
 use Prim.Native.Nat.{_-_}
 use native.Mathlib.Omega.{arith}
 use borrow.Author.Needs.{needs}

@@ -1,4 +1,4 @@
--- `twoway_checks::refusals::refused` meets its contract.
+-- All fields but the refusal are zeros, as in the definition.
 use mathlib.Core.Path.{refl}
 use Rattle.twoway_checks.specs.Data.{noCounts}
 use Rattle.twoway_checks.proofs.refusals.refused.Statement.{statement}

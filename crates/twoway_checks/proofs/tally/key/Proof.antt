@@ -1,4 +1,4 @@
--- `twoway_checks::tally::key` meets its contract.
+-- The code is the definition's formula, and the caller's bounds keep it from wrapping.
 use native.Mathlib.Omega.{arith}
 use borrow.Author.Needs.{needs}
 use Rattle.base.proofs.Bounds.{product-le}

@@ -1,4 +1,4 @@
--- `twoway_type3::codes::effect_code` meets its contract.
+-- The two tests are the definition's own, in its order.
 use mathlib.Core.Path.{refl}
 use native.Mathlib.Omega.{arith}
 use borrow.Author.Tests.{eq-eqb, ne-eqb}

@@ -1,4 +1,4 @@
--- `twoway_type3::normal::add_reading` meets its contract.
+-- The row of codes is the definition's, and its products are added as the definition adds them.
 use Prim.Native.Nat.{_+_, _*_}
 use mathlib.Core.Path.{_∙_, ap}
 use native.Mathlib.Omega.{arith}

@@ -1,4 +1,4 @@
--- `twoway_type3::shape::factor_fits` meets its contract.
+-- Each test is one clause of the definition: too few levels, too many, a code beyond them.
 use Rattle.twoway_type3.proofs.Fitted.{factor-few, factor-many, factor-codes}
 use Rattle.twoway_type3.proofs.shape.factor_fits.Statement.{statement}
 use Rattle.twoway_type3.proofs.shape.factor_fits.Tie as tie
