@@ -10,7 +10,7 @@ use Rattle.base.specs.Loop.{loop}
 use Rattle.float.specs.Words.{_⊕_, _⊗_}
 use Rattle.matrix_linear.specs.Rows.{at}
 
--- its place q
+-- place q of a left half that is laid out for the inverse (`halfOf`)
 abbrev pub halfAt : ℕ → ℕ → ℕ → List Float → ℕ → Float
 halfAt n from w m q = halfOf n from w m (q / (2 * n)) (q % (2 * n))
 
@@ -26,7 +26,7 @@ blockFrom = inverseFrom + mostCells * (2 * mostCells)
 abbrev pub mostColumns : ℕ
 mostColumns = (mostLevels - 1) * (mostLevels - 1)
 
--- the same of the readings and the codes, as facts
+-- what `fits` (Shape.antt) tells of the readings and the codes, as facts
 pub record Fitting (values : List Float) (us vs : List ℕ) (a b : ℕ) : Type 0 where
   pub least-a : 2 ≤ a
   pub most-a : a ≤ mostLevels
