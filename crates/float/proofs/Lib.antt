@@ -6,3 +6,4 @@ pub mod Signs
 pub mod Operands
 pub mod Values
 pub mod Powers
+pub mod Wholes

@@ -1,15 +1,22 @@
 -- The ways through one column, each from what the code worked out step by step: p, x, y are the memory after a step.
-use Prim.Native.Nat.{ℕ, _+_, _*_}
-use mathlib.Core.Path.{_≡_, sym, ap, _∙_}
+use Prim.Native.Nat.{ℕ, _+_, _*_, _<_}
+use mathlib.Core.Path.{_≡_, refl, sym, ap, _∙_}
 use mathlib.Core.Bool.{Bool, true, false}
 use mathlib.Core.List.{List}
-use lib.Ieee.{Float, eq}
+use native.Mathlib.Omega.{arith}
+use borrow.Author.Tests.{eq-eqb}
+use lib.ListN.{set}
+use lib.Seq.{set-getD}
+use lib.Ieee.{Float, nan, eq}
+use Rattle.base.specs.Loop.{loop}
+use Rattle.base.proofs.Loops.{step}
+use Rattle.base.proofs.Walks.{walks}
 use Rattle.base.proofs.Bounds.{then-of, else-of}
 use Rattle.float.specs.Words.{plusZero}
 use Rattle.matrix_places.specs.Places.{at, overRow}
-use Rattle.matrix_linear.specs.Rows.{swapRows, pivotRow, pivoted, skips, clearBelow}
+use Rattle.matrix_linear.specs.Rows.{swapAt, swapRows, pivotRow, pivoted, skips, clearBelow}
 use Rattle.matrix_linear.specs.System.{cleared, column}
-use Rattle.matrix_linear.specs.Inverse.{clearOthers, scaled, reduced, fullColumn}
+use Rattle.matrix_linear.specs.Inverse.{clearOther, clearOthers, scaled, reduced, fullColumn}
 use Rattle.matrix_linear.specs.Determinant.{turned, pivotless, swept, detTry, detColumn}
 
 -- the pivot's row has come up
@@ -38,6 +45,20 @@ module _ (n w col : ℕ) (m : List Float) {p : List Float} (e : p ≡ pivoted n 
   pub full-cleared : {x y : List Float} → skips p (col * w + col) ≡ false → x ≡ overRow (col * w) (at p (col * w + col)) w p → y ≡ clearOthers n w col x → y ≡ fullColumn n w col m
   unfolding fullColumn reduced scaled
   full-cleared h q r = else-of (skips (pivoted n w col m) (col * w + col)) _ _ (moved h) (r ∙ ap (clearOthers n w col) (q ∙ ap (λ (s : List Float). overRow (col * w) (at s (col * w + col)) w s) e))
+
+-- a row that changes places with itself
+pub swap-own : (w a b : ℕ) (m : List Float) → a ≡ b → m ≡ swapRows w a b m
+unfolding swapRows
+swap-own w a b m e =
+    rw e (
+    walks (swapAt (b * w) (b * w)) (λ j s. m ≡ s) w
+    (λ j s l q. let k = b * w + j in q ∙ sym (ap (λ (t : List Float). set t k (at s k)) (set-getD s k nan) ∙ set-getD s k nan))
+    0 m (omega arith) refl)
+
+-- row col itself is passed over
+pub own-row : (n w col r : ℕ) (m : List Float) {whole : List Float} → loop r n (clearOther w col) m ≡ whole → r ≡ col → col < n → loop (col + 1) n (clearOther w col) m ≡ whole
+unfolding clearOther
+own-row n w col r m e q h = step col n (clearOther w col) m m _ (rw q at e) h (rw (eq-eqb col col refl))
 
 -- the determinant, with its sign s: a column before had no pivot, or this one has none, or rows change places
 module _ (n col : ℕ) (m : List Float) (s : Float) where

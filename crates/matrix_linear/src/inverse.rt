@@ -48,12 +48,16 @@ pub fn clear_other(m: &mut [f64], w: usize, col: usize, r: usize)
     matrix_places::less_row(m, col * w, r * w, f, 0, w);
 }
 
-// All rows but col are cleared in the column.
+// All rows but col are cleared in the column. The rows before it and those behind it have a loop each: then no loop writes to row col, which it reads,
+// and the compiler can take several places at a time.
 pub fn clear_others(m: &mut [f64], n: usize, w: usize, col: usize)
     requires { ⌜ (col < n) × ((n ≤ w) × (n * w ≤ length (now m))) ⌝ }
     ensures { λ _. ⌜ now (m .exit) ≡ clearOthers n w col (now (m .entry)) ⌝ }
 {
-    for r in 0..n {
+    for r in 0..col {
+        clear_other(m, w, col, r);
+    }
+    for r in col + 1..n {
         clear_other(m, w, col, r);
     }
 }

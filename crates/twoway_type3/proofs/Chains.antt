@@ -20,7 +20,7 @@ use Rattle.twoway_type3.proofs.Sizes.{system-most, inverse-most, block-
 use Rattle.twoway_type3.proofs.Halves.{half-part, length-places}
 use Rattle.twoway_type3.proofs.Lent.{length-part, part-of-taken, laid-length, laid-same, laid-taken, laid-before, laid-after}
 
-half-length : (n from w : ℕ) (m : List Float) → length (leftHalf n from w m) ≡ n * (2 * n)
+pub half-length : (n from w : ℕ) (m : List Float) → length (leftHalf n from w m) ≡ n * (2 * n)
 unfolding leftHalf table
 half-length n from w m = length-places 0 (n * (2 * n)) (halfAt n from w m)
 
@@ -84,17 +84,17 @@ module _ (p s n : ℕ) (z : 0 < n) (few : n ≤ mostColumns) (inside : s + n ≤
   wald-lent j k ej ek e f g = rw ek (wald-chain e (rw ek at f) (rw (ej, ek) at g))
 
 -- the system is built and copied, solved and inverted
-module _ (values : List Float) (us vs : List ℕ) (a b : ℕ) (some : 0 < a * b) (most : a * b ≤ mostCells) (w₀ : List Float) (long : length w₀ ≡ scratchPlaces) where
-  pub solve-chain : {x₁ w₂ x₃ x₄ : List Float} {t₃ t₄ : Bool}
-      → x₁ ≡ normalSystem values us vs a b
-      → length x₁ ≡ a * b * (a * b + 1)
-      → w₂ ≡ within inverseFrom (a * b * (2 * (a * b))) (λ _. leftHalf (a * b) 0 (a * b + 1) (laid 0 (a * b * (a * b + 1)) x₁ w₀)) (laid 0 (a * b * (a * b + 1)) x₁ w₀)
+module _ (values : List Float) (us vs : List ℕ) (a b : ℕ) (some : 0 < a * b) (most : a * b ≤ mostCells) where
+  pub solve-chain : (w₁ : List Float) {w₂ x₃ x₄ : List Float} {t₃ t₄ : Bool}
+      → part 0 (a * b * (a * b + 1)) w₁ ≡ normalSystem values us vs a b
+      → length w₁ ≡ scratchPlaces
+      → w₂ ≡ within inverseFrom (a * b * (2 * (a * b))) (λ _. leftHalf (a * b) 0 (a * b + 1) w₁) w₁
       → (x₃, t₃) ≡ solveLinearSystem (a * b) (part 0 (a * b * (a * b + 1)) w₂)
       → (x₄, t₄) ≡ matrixInverse (a * b) (part inverseFrom (a * b * (2 * (a * b))) (laid 0 (a * b * (a * b + 1)) x₃ w₂))
       → (part 0 (a * b * (a * b + 1)) (laid inverseFrom (a * b * (2 * (a * b))) x₄ (laid 0 (a * b * (a * b + 1)) x₃ w₂)) ≡ beta values us vs a b)
       × (part inverseFrom (a * b * (2 * (a * b))) (laid inverseFrom (a * b * (2 * (a * b))) x₄ (laid 0 (a * b * (a * b + 1)) x₃ w₂)) ≡ inverse values us vs a b)
   unfolding beta inverse within
-  solve-chain {x₁} {w₂} {x₃} {x₄} {t₃} {t₄} e₁ l₁ e₂ e₃ e₄ = (front, back)
+  solve-chain w₁ {w₂} {x₃} {x₄} {t₃} {t₄} e₁ long₁ e₂ e₃ e₄ = (front, back)
     where
       p : ℕ
       p = a * b
@@ -105,9 +105,6 @@ module _ (values : List Float) (us vs : List ℕ) (a b : ℕ) (some : 0 < a * b)
       k : ℕ
       k = a * b * (2 * (a * b))
 
-      w₁ : List Float
-      w₁ = laid 0 z x₁ w₀
-
       h : List Float
       h = leftHalf p 0 (p + 1) w₁
 
@@ -116,12 +113,6 @@ module _ (values : List Float) (us vs : List ℕ) (a b : ℕ) (some : 0 < a * b)
 
       ks : a * b * (2 * (a * b)) ≤ mostCells * (2 * mostCells)
       ks = inverse-most (a * b) most
-
-      room₀ : 0 + z ≤ length w₀
-      room₀ = omega (arith, zs)
-
-      long₁ : length w₁ ≡ scratchPlaces
-      long₁ = laid-length 0 z x₁ w₀ room₀ l₁ ∙ long
 
       room₁ : inverseFrom + k ≤ length w₁
       room₁ = omega (arith, ks, long₁)
@@ -136,14 +127,14 @@ module _ (values : List Float) (us vs : List ℕ) (a b : ℕ) (some : 0 < a * b)
       room₂ = omega (arith, zs, long₂)
 
       system : part 0 z w₂ ≡ normalSystem values us vs a b
-      system = ap (part 0 z) e₂ ∙ laid-before inverseFrom k h w₁ room₁ long-h 0 z (omega (arith, zs)) ∙ laid-same 0 z x₁ w₀ room₀ l₁ ∙ e₁
+      system = ap (part 0 z) e₂ ∙ laid-before inverseFrom k h w₁ room₁ long-h 0 z (omega (arith, zs)) ∙ e₁
 
       half : part inverseFrom k w₂ ≡ leftHalf p 0 (p + 1) (normalSystem values us vs a b)
       half =
           ap (part inverseFrom k) e₂
           ∙ laid-same inverseFrom k h w₁ room₁ long-h
           ∙ half-part p 0 (p + 1) 0 z w₁ some (system-rows p)
-          ∙ ap (leftHalf p 0 (p + 1)) (laid-same 0 z x₁ w₀ room₀ l₁ ∙ e₁)
+          ∙ ap (leftHalf p 0 (p + 1)) e₁
 
       solved : x₃ ≡ solveLinearSystem p (part 0 z w₂) .0
       solved = ap (λ (y : List Float × Bool). y .0) e₃
@@ -180,16 +171,16 @@ module _ (values : List Float) (us vs : List ℕ) (a b : ℕ) (some : 0 < a * b)
           ∙ ap (λ (y : List Float). matrixInverse p y .0) (laid-after 0 z x₃ w₂ room₂ long-x₃ inverseFrom k (omega (arith, zs)) ∙ half)
 
   -- the same, where j and k are the lengths of the parts as the code works them out
-  pub solve-lent : (j k : ℕ) → j ≡ a * b * (a * b + 1) → k ≡ a * b * (2 * (a * b)) → {x₁ w₂ x₃ x₄ : List Float} {t₃ t₄ : Bool}
-      → x₁ ≡ normalSystem values us vs a b
-      → length x₁ ≡ a * b * (a * b + 1)
-      → w₂ ≡ within inverseFrom (a * b * (2 * (a * b))) (λ _. leftHalf (a * b) 0 (a * b + 1) (laid 0 j x₁ w₀)) (laid 0 j x₁ w₀)
+  pub solve-lent : (j k : ℕ) → j ≡ a * b * (a * b + 1) → k ≡ a * b * (2 * (a * b)) → (w₁ : List Float) {w₂ x₃ x₄ : List Float} {t₃ t₄ : Bool}
+      → part 0 (a * b * (a * b + 1)) w₁ ≡ normalSystem values us vs a b
+      → length w₁ ≡ scratchPlaces
+      → w₂ ≡ within inverseFrom (a * b * (2 * (a * b))) (λ _. leftHalf (a * b) 0 (a * b + 1) w₁) w₁
       → (x₃, t₃) ≡ solveLinearSystem (a * b) (take j (drop 0 w₂))
       → (x₄, t₄) ≡ matrixInverse (a * b) (take k (drop inverseFrom (laid 0 j x₃ w₂)))
       → (part 0 (a * b * (a * b + 1)) (laid inverseFrom k x₄ (laid 0 j x₃ w₂)) ≡ beta values us vs a b)
       × (part inverseFrom (a * b * (2 * (a * b))) (laid inverseFrom k x₄ (laid 0 j x₃ w₂)) ≡ inverse values us vs a b)
   unfolding part
-  solve-lent j k ej ek e₁ l₁ e₂ e₃ e₄ = rw (ej, ek) (solve-chain e₁ l₁ (rw ej at e₂) (rw ej at e₃) (rw (ej, ek) at e₄))
+  solve-lent j k ej ek w₁ e₁ l₁ e₂ e₃ e₄ = rw (ej, ek) (solve-chain w₁ e₁ l₁ e₂ (rw ej at e₃) (rw (ej, ek) at e₄))
 
 -- the three effects, one after another: each leaves the coefficients and the inverse as they were
 module _ (values : List Float) (us vs : List ℕ) (a b : ℕ) (most : a * b ≤ mostCells) where

@@ -28,6 +28,11 @@ module _ {A : Type 0} where
   unfolding part
   part-of-taken a k t r s h e = taken-drop a k t r h ∙ ap (λ (z : List A). take k (drop a z)) e ∙ sym (taken-drop a k t s h)
 
+  -- a part of a part
+  pub part-part : (a k o l : ℕ) (s : List A) → a + k ≤ l → part a k (part o l s) ≡ part (o + a) k s
+  unfolding part
+  part-part a k o l s h = sym (taken-drop a k l (drop o s) h) ∙ ap (take k) (drop-drop a o s)
+
   -- x has taken the place of the part
   module _ (a k : ℕ) (x s : List A) (fits : a + k ≤ length s) (same : length x ≡ k) where
     pub laid-length : length (take a s ++ (x ++ drop k (drop a s))) ≡ length s

@@ -1,11 +1,16 @@
 pub mod Fitted
 pub mod Ways
 pub mod Built
+pub mod Tallies
+pub mod Coded
+pub mod Counted
 pub mod Readings
 pub mod Lent
+pub mod Keeping
 pub mod Halves
 pub mod Sizes
 pub mod Chains
+pub mod Guards
 pub mod Answers
 pub mod Entries
 pub mod Columns

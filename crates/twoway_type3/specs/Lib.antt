@@ -4,4 +4,5 @@ pub mod Matrices
 pub mod Normal
 pub mod Wald
 pub mod Answer
+pub mod Counted
 pub mod Inner

@@ -1,4 +1,4 @@
-// The row of the design matrix that a reading has, by effect coding.
+// The row of the design matrix that the readings of a cell have, by effect coding.
 ghost use mathlib.Core.Path.{_≡_};
 ghost use Prim.Native.Nat.{_+_, _-_, _≤_, _<_};
 ghost use lib.ListN.{length};
@@ -51,15 +51,15 @@ fn products(x: &mut [f64], a: usize, b: usize)
     }
 }
 
-// The reading's row, and its value behind it.
-pub fn design_row(a: usize, b: usize, u: u32, v: u32, y: f64) -> [f64; ROW]
+// The row of the codes u and v, and a value behind it.
+pub fn design_row(a: usize, b: usize, u: usize, v: usize, y: f64) -> [f64; ROW]
     requires { ⌜ (2 ≤ a) × (a ≤ mostLevels) × (2 ≤ b) × (b ≤ mostLevels) ⌝ }
     ensures { λ r. ⌜ r ≡ designRow a b u v y ⌝ }
 {
     let mut x = [0.0; ROW];
     x[0] = 1.0;
-    codes_from(&mut x, 1, a, u as usize);
-    codes_from(&mut x, a, b, v as usize);
+    codes_from(&mut x, 1, a, u);
+    codes_from(&mut x, a, b, v);
     products(&mut x, a, b);
     x[a * b] = y;
     x

@@ -1,5 +1,6 @@
 // Type III sums of squares of an unbalanced two-way design, in memory that the caller lends.
 mod codes;
+mod counts;
 mod half;
 mod normal;
 mod shape;

@@ -59,7 +59,7 @@ fn solve(values: &[f64], factor_a: &[u32], factor_b: &[u32], a: usize, b: usize,
     let p = a * b;
     let z = p * (p + 1);
     let end = INVERSE + p * (2 * p);
-    normal_system(values, factor_a, factor_b, a, b, &mut work[0..z]);
+    normal_system(values, factor_a, factor_b, a, b, work);
     left_half(work, INVERSE, p, 0, p + 1);
     matrix_linear::solve_linear_system(&mut work[0..z], p);
     matrix_linear::matrix_inverse(&mut work[INVERSE..end], p);

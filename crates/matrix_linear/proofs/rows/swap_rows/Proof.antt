@@ -1,4 +1,4 @@
--- Two places a turn, both read before either is set: that is the step of the definition.
+-- Two places a turn, both read before either is set: that is the step of the definition. A row that changes places with itself stays as it is.
 use Prim.Native.Nat.{_-_, _*_}
 use mathlib.Core.Path.{_≡_}
 use native.Mathlib.Omega.{arith}
@@ -7,6 +7,7 @@ use lib.ListN.{length, length-set}
 use Rattle.matrix_linear.specs.Rows.{swapAt, swapRows}
 use Rattle.base.specs.Loop.{loop}
 use Rattle.base.proofs.Loops.{step, ends}
+use Rattle.matrix_linear.proofs.Columns.{swap-own}
 use Rattle.matrix_linear.proofs.rows.swap_rows.Statement.{statement}
 use Rattle.matrix_linear.proofs.rows.swap_rows.Tie as tie
 
@@ -15,6 +16,9 @@ Inv-loop m₀ w a b p q j₀ m j = (length m ≡ length m₀) × (loop j w (swap
 
 abbrev μ-loop : tie.MeasureT-loop
 μ-loop m₀ w a b p q j₀ m j = w - j
+
+returns : tie.Need-returns Inv-loop μ-loop
+returns c = swap-own _ _ _ _ (c .if1 .taken)
 
 mul-p : tie.Need-mul-p Inv-loop μ-loop
 mul-p c = omega arith
@@ -74,8 +78,8 @@ loop-again c = search (needs, step)
 same-length : tie.Need-same-length Inv-loop μ-loop
 same-length c = search needs
 
-returns : tie.Need-returns Inv-loop μ-loop
-returns c = search (needs, ends)
+returns-2 : tie.Need-returns-2 Inv-loop μ-loop
+returns-2 c = search (needs, ends)
 
 pub swap-rows-spec : {M : Type 1} → statement M
 swap-rows-spec =
@@ -83,6 +87,7 @@ swap-rows-spec =
     (tie.spec
     Inv-loop
     μ-loop
+    returns
     mul-p
     mul-q
     loop-holds
@@ -102,4 +107,4 @@ swap-rows-spec =
     loop-less
     loop-again
     same-length
-    returns)
+    returns-2)

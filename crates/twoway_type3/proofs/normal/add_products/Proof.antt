@@ -12,10 +12,10 @@ use Rattle.twoway_type3.proofs.normal.add_products.Statement.{statement
 use Rattle.twoway_type3.proofs.normal.add_products.Tie as tie
 
 abbrev Inv-loop : tie.InvT-loop
-Inv-loop x n w m₀ j₀ m j = (length m ≡ length m₀) × (loop j n (addRow w x) m ≡ addProducts n w x m₀)
+Inv-loop x n p w m₀ j₀ m j = (length m ≡ length m₀) × (loop j p (addRow w n x) m ≡ addProducts p w n x m₀)
 
 abbrev μ-loop : tie.MeasureT-loop
-μ-loop x n w m₀ j₀ m j = n - j
+μ-loop x n p w m₀ j₀ m j = p - j
 
 loop-holds : tie.Need-loop-holds Inv-loop μ-loop
 unfolding addProducts
@@ -23,7 +23,7 @@ loop-holds c = search needs
 
 add-row-requires : tie.Need-add-row-requires Inv-loop μ-loop
 add-row-requires c κs = let s = c .before .before .before .before .before in
-    (omega arith, omega arith, row-end (c .before .before .loop .j) (s .args .n) (s .args .w) (c .before .loop-test .taken) (omega arith))
+    (omega arith, omega arith, row-end (c .before .before .loop .j) (s .args .p) (s .args .w) (c .before .loop-test .taken) (omega arith))
 
 add-j : tie.Need-add-j Inv-loop μ-loop
 add-j c = omega arith

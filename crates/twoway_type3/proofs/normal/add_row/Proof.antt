@@ -11,10 +11,10 @@ use Rattle.twoway_type3.proofs.normal.add_row.Statement.{statement}
 use Rattle.twoway_type3.proofs.normal.add_row.Tie as tie
 
 abbrev Inv-loop : tie.InvT-loop
-Inv-loop x w j m₀ f p k₀ m k = (length m ≡ length m₀) × (loop k w (addAt w x j) m ≡ addRow w x j m₀)
+Inv-loop x n w j m₀ f p k₀ m k = (length m ≡ length m₀) × (loop k w (addAt w n x j) m ≡ addRow w n x j m₀)
 
 abbrev μ-loop : tie.MeasureT-loop
-μ-loop x w j m₀ f p k₀ m k = w - k
+μ-loop x n w j m₀ f p k₀ m k = w - k
 
 mul-f : tie.Need-mul-f Inv-loop μ-loop
 mul-f c = omega arith

@@ -1,93 +1,160 @@
--- Reading after reading adds its products to all places; `normal-walk` turns the walk over readings into the sum of each place over the readings.
-use Prim.Native.Nat.{_-_, _+_, _*_}
-use mathlib.Core.Path.{_≡_, refl, _∙_, ap}
+-- The cells give X'X, the readings X'y, and both stand in the system's part of the lent memory; the rows between them lie behind it.
+use Prim.Native.Nat.{_-_, _+_, _*_, _≤_}
+use mathlib.Core.Path.{_≡_}
 use native.Mathlib.Omega.{arith}
 use borrow.Author.Needs.{needs}
 use lib.ListN.{length}
-use Rattle.twoway_type3.specs.Normal.{rowOf}
-use Rattle.base.proofs.Bounds.{product-le}
-use Rattle.base.proofs.Loops.{step, ends}
-use Rattle.base.specs.Loop.{loop}
-use Rattle.twoway_type3.specs.Normal.{normalSystem}
-use Rattle.lent.specs.Wiping.{zeros}
-use Rattle.lent.proofs.Wipes.{wiped-short}
-use Rattle.twoway_type3.proofs.Readings.{addReading, normal-walk}
+use Rattle.base.specs.Limits.{scratchPlaces}
+use Rattle.twoway_type3.specs.Counted.{cellsOf, mostCounts}
+use Rattle.twoway_type3.specs.Inner.{rowsFrom}
+use Rattle.twoway_type3.proofs.Coded.{cells-few}
+use Rattle.twoway_type3.proofs.Keeping.{Room, rows-room, kept-lent, system-lent}
 use Rattle.twoway_type3.proofs.normal.normal_system.Statement.{statement}
 use Rattle.twoway_type3.proofs.normal.normal_system.Tie as tie
 
-abbrev Inv-loop : tie.InvT-loop
-Inv-loop values factor-a factor-b a b m₀ i₀ i-end m i = (i-end ≡ length values) × (length m ≡ length m₀) × (loop i (length values) (addReading values factor-a factor-b a b) m ≡ normalSystem values factor-a factor-b a b)
+-- the start, seen from where all slices are known; that place, seen from where the system is wiped; that one, from where all cells are added
+abbrev start : tie.After-slice-known → tie.Start
+start c = c .before .before .before .before
 
-abbrev μ-loop : tie.MeasureT-loop
-μ-loop values factor-a factor-b a b m₀ i₀ i-end m i = i-end - i
+abbrev wiped : tie.After-slice-known2 → tie.After-slice-known
+wiped c = c .before .before .before .before
 
-wipe-requires : tie.Need-wipe-requires Inv-loop μ-loop
+abbrev counted : tie.After-slice-known3 → tie.After-count-cells
+counted c = c .before .before .before .before .before
+
+abbrev begin : tie.After-slice-known3 → tie.Start
+begin c = start (wiped (counted c .before))
+
+-- how much room the system and the rows take
+sizes : (s : tie.Start) → Room (s .args .a) (s .args .b)
+sizes s = rows-room (s .args .a) (s .args .b) (s .pre .0 .most-a) (s .pre .0 .most-b)
+
+cells : (s : tie.Start) → cellsOf (s .args .a) (s .args .b) ≤ mostCounts
+cells s = cells-few (s .args .a) (s .args .b) (s .pre .0 .most-a) (s .pre .0 .most-b)
+
+-- the cells leave the memory as long as it was
+long : (c : tie.After-slice-known3) → length (c .before .before .add-cells .last .1 .1 .1 .0) ≡ scratchPlaces
+long c = omega arith
+
+mul-p : tie.Need-mul-p
+mul-p c = omega (arith, sizes (start c))
+
+add-z : tie.Need-add-z
+add-z c = omega (arith, sizes (start c))
+
+mul-z : tie.Need-mul-z
+mul-z c = omega (arith, sizes (start c))
+
+sub-wipe : tie.Need-sub-wipe
+sub-wipe c = omega arith
+
+part-wipe-start : tie.Need-part-wipe-start
+part-wipe-start c = omega arith
+
+part-wipe-end : tie.Need-part-wipe-end
+part-wipe-end c = omega (arith, sizes (start c))
+
+wipe-requires : tie.Need-wipe-requires
 wipe-requires c κs = search needs
 
-loop-holds : tie.Need-loop-holds Inv-loop μ-loop
-loop-holds c = let s = c .before .before .before .before .before .before .before .before in
+count-cells-requires : tie.Need-count-cells-requires
+count-cells-requires c κs = let s = start (wiped c) in
     let f = s .pre .0 in
-    let w = c .before .before .wipe .ensures in
-    let k = product-le 6 6 {x = s .args .a} {y = s .args .b} (f .most-a) (f .most-b) in
-    let z = product-le 36 37 {x = s .args .a * s .args .b} {y = s .args .a * s .args .b + 1} (omega (arith, k)) (omega (arith, k)) in
-    (refl, omega arith, ap (loop 0 _ _) (w ∙ wiped-short _ (omega (arith, z)) ∙ ap zeros (s .pre .1)) ∙ normal-walk _ _ _ _ _)
+    (f .most-a, f .most-b, omega arith, omega arith)
 
-mul-add-reading : tie.Need-mul-add-reading Inv-loop μ-loop
-mul-add-reading c = omega arith
+slice-aggregate-add-cells : tie.Need-slice-aggregate-add-cells
+slice-aggregate-add-cells c = search needs
 
-shared-slice-read-add-reading : tie.Need-shared-slice-read-add-reading Inv-loop μ-loop
-shared-slice-read-add-reading c = omega arith
+add-cells-requires : tie.Need-add-cells-requires
+add-cells-requires c κs = let s = start (wiped (c .before .before .before)) in
+    let f = s .pre .0 in
+    (f .least-a, f .most-a, f .least-b, f .most-b, omega arith, omega arith)
 
-mul-add-reading-2 : tie.Need-mul-add-reading-2 Inv-loop μ-loop
-mul-add-reading-2 c = omega arith
+add-value-sums : tie.Need-add-value-sums
+add-value-sums c = omega arith
 
-shared-slice-read-add-reading-2 : tie.Need-shared-slice-read-add-reading-2 Inv-loop μ-loop
-shared-slice-read-add-reading-2 c = omega arith
+add-value-sums-2 : tie.Need-add-value-sums-2
+add-value-sums-2 c = omega arith
 
-mul-add-reading-3 : tie.Need-mul-add-reading-3 Inv-loop μ-loop
-mul-add-reading-3 c = omega arith
+mul-value-sums : tie.Need-mul-value-sums
+mul-value-sums c = omega (arith, sizes (begin c), cells (begin c))
 
-shared-slice-read-add-reading-3 : tie.Need-shared-slice-read-add-reading-3 Inv-loop μ-loop
-shared-slice-read-add-reading-3 c = omega arith
+mul-value-sums-2 : tie.Need-mul-value-sums-2
+mul-value-sums-2 c = omega (arith, sizes (begin c), cells (begin c))
 
-add-reading-requires : tie.Need-add-reading-requires Inv-loop μ-loop
-add-reading-requires c κs = omega arith
+add-value-sums-3 : tie.Need-add-value-sums-3
+add-value-sums-3 c = omega (arith, sizes (begin c), cells (begin c))
 
-add-i : tie.Need-add-i Inv-loop μ-loop
-add-i c = omega arith
+sub-value-sums : tie.Need-sub-value-sums
+sub-value-sums c = omega arith
 
-loop-less : tie.Need-loop-less Inv-loop μ-loop
-loop-less c = omega arith
+part-value-sums-start : tie.Need-part-value-sums-start
+part-value-sums-start c = omega arith
 
-loop-again : tie.Need-loop-again Inv-loop μ-loop
-unfolding addReading rowOf
-loop-again c = let at = c .before .before .before .before .before .before .before .before in
-    let i = at .loop .inv in
-    (i .0, omega arith, step _ _ _ _ _ _ (i .2) (omega arith) (c .before .before .add-reading .ensures))
+part-value-sums-end : tie.Need-part-value-sums-end
+part-value-sums-end c = omega (arith, sizes (begin (c .before)))
 
-same-length : tie.Need-same-length Inv-loop μ-loop
-same-length c = omega arith
+value-sums-requires : tie.Need-value-sums-requires
+value-sums-requires c κs = let k = c .before .before in
+    let s = begin k in
+    let f = s .pre .0 in
+    let n = cellsOf (s .args .a) (s .args .b) * (s .args .a * s .args .b) in
+    (f, omega (arith, sizes s), kept-lent _ _ _ _ _ f (rowsFrom + n - rowsFrom) (omega arith) (counted k .count-cells .ensures) _ (k .before .before .add-cells .ensures .1))
 
-returns : tie.Need-returns Inv-loop μ-loop
-returns c = let i = c .before .loop .inv in ends _ _ _ _ _ (i .2) (omega arith)
+slice-aggregate-put-column : tie.Need-slice-aggregate-put-column
+slice-aggregate-put-column c = search needs
+
+sub-put-column : tie.Need-sub-put-column
+sub-put-column c = omega arith
+
+part-put-column-start : tie.Need-part-put-column-start
+part-put-column-start c = omega arith
+
+part-put-column-end : tie.Need-part-put-column-end
+part-put-column-end c = omega (arith, sizes (begin (c .before .before .before .before)))
+
+put-column-requires : tie.Need-put-column-requires
+put-column-requires c κs = omega (arith, sizes (begin (c .before .before .before .before .before)))
+
+same-length : tie.Need-same-length
+same-length c = search needs
+
+returns : tie.Need-returns
+returns c = let t = c .before .before in
+    let v = t .before .before .before in
+    let k = v .before .before .before in
+    let w = counted k .before .before .before in
+    let s = begin k in
+    let p = s .args .a * s .args .b in
+    system-lent (s .args .values .now) (s .args .factor-a .now) (s .args .factor-b .now) (s .args .a) (s .args .b) (s .pre .0) (p * (p + 1) - 0) (omega arith) (counted k .count-cells .ensures) (s .args .work .now) _ (v .value-sums .result) (s .pre .1) (long k) (w .wipe .ensures) (omega arith) (k .before .before .add-cells .ensures .0) (v .value-sums .ensures) (t .put-column .ensures) (omega arith)
 
 pub normal-system-spec : {M : Type 1} → statement M
 normal-system-spec =
     tie.close
     (tie.spec
-    Inv-loop
-    μ-loop
+    mul-p
+    add-z
+    mul-z
+    sub-wipe
+    part-wipe-start
+    part-wipe-end
     wipe-requires
-    loop-holds
-    mul-add-reading
-    shared-slice-read-add-reading
-    mul-add-reading-2
-    shared-slice-read-add-reading-2
-    mul-add-reading-3
-    shared-slice-read-add-reading-3
-    add-reading-requires
-    add-i
-    loop-less
-    loop-again
+    count-cells-requires
+    slice-aggregate-add-cells
+    add-cells-requires
+    add-value-sums
+    add-value-sums-2
+    mul-value-sums
+    mul-value-sums-2
+    add-value-sums-3
+    sub-value-sums
+    part-value-sums-start
+    part-value-sums-end
+    value-sums-requires
+    slice-aggregate-put-column
+    sub-put-column
+    part-put-column-start
+    part-put-column-end
+    put-column-requires
     same-length
     returns)

@@ -2,7 +2,9 @@
 use Prim.Native.Nat.{_-_, _+_, _*_, _<_, _≤_}
 use native.Mathlib.Omega.{arith}
 use borrow.Author.Needs.{needs}
-use Rattle.base.specs.Limits.{mostCells}
+use mathlib.Core.Path.{_≡_}
+use lib.ListN.{length}
+use Rattle.base.specs.Limits.{mostCells, scratchPlaces}
 use Rattle.twoway_type3.specs.Inner.{inverseFrom}
 use Rattle.twoway_type3.proofs.Chains.{solve-lent}
 use Rattle.twoway_type3.proofs.Sizes.{cells-most, cells-some, system-most, inverse-most, system-rows}
@@ -23,6 +25,10 @@ sizes s =
     let p = cells-most (s .args .a) (s .args .b) (f .most-a) (f .most-b) in
     (cells-some (s .args .a) (s .args .b) (f .least-a) (f .least-b), p, system-most (s .args .a * s .args .b) p, inverse-most (s .args .a * s .args .b) p)
 
+-- the memory is as long as it was
+long : (c : tie.After-slice-known2) → length (c .before .before .normal-system .last .1 .1 .1 .1 .1 .0) ≡ scratchPlaces
+long c = omega arith
+
 mul-p : tie.Need-mul-p
 mul-p c = omega (arith, sizes (c .before .before .before .before))
 
@@ -40,15 +46,6 @@ mul-end-2 c = omega (arith, sizes (c .before .before .before .before))
 
 add-end : tie.Need-add-end
 add-end c = omega (arith, sizes (c .before .before .before .before))
-
-sub-normal-system : tie.Need-sub-normal-system
-sub-normal-system c = omega arith
-
-part-normal-system-start : tie.Need-part-normal-system-start
-part-normal-system-start c = omega arith
-
-part-normal-system-end : tie.Need-part-normal-system-end
-part-normal-system-end c = omega (arith, sizes (c .before .before .before .before))
 
 normal-system-requires : tie.Need-normal-system-requires
 normal-system-requires c κs = search needs
@@ -97,7 +94,7 @@ returns c = let m = c .before .before in
     let s = n .before .before .before .before .before .before in
     let p = s .args .a * s .args .b in
     let k = sizes s in
-    solve-lent (s .args .values .now) (s .args .factor-a .now) (s .args .factor-b .now) (s .args .a) (s .args .b) (k .0) (k .1) (s .args .work .now) (s .pre .1) (p * (p + 1) - 0) (inverseFrom + p * (2 * p) - inverseFrom) (omega arith) (omega arith) (n .normal-system .ensures) (omega arith) (h .left-half .ensures) (o .solve-linear-system .ensures) (m .matrix-inverse .ensures)
+    solve-lent (s .args .values .now) (s .args .factor-a .now) (s .args .factor-b .now) (s .args .a) (s .args .b) (k .0) (k .1) (p * (p + 1) - 0) (inverseFrom + p * (2 * p) - inverseFrom) (omega arith) (omega arith) _ (n .normal-system .ensures) (long (h .before .before)) (h .left-half .ensures) (o .solve-linear-system .ensures) (m .matrix-inverse .ensures)
 
 pub solve-spec : {M : Type 1} → statement M
 solve-spec =
@@ -109,9 +106,6 @@ solve-spec =
     mul-end
     mul-end-2
     add-end
-    sub-normal-system
-    part-normal-system-start
-    part-normal-system-end
     normal-system-requires
     add-left-half
     left-half-requires

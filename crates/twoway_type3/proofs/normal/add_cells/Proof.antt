@@ -1,0 +1,88 @@
+-- Cell after cell is added, and the rows of those before it stay.
+use Prim.Native.Nat.{_-_, _+_, _*_}
+use mathlib.Core.Path.{_≡_, refl}
+use native.Mathlib.Nat.{not-suc-le-zero}
+use native.Mathlib.Omega.{arith}
+use lib.ListN.{length, getD}
+use Rattle.base.specs.Lists.{part}
+use Rattle.base.specs.Loop.{loop}
+use Rattle.base.proofs.Loops.{step, ends}
+use Rattle.twoway_type3.specs.Counted.{cellsOf}
+use Rattle.twoway_type3.specs.Inner.{Kept, rowsFrom, addCell, addCells}
+use Rattle.twoway_type3.proofs.Coded.{cells-few}
+use Rattle.twoway_type3.proofs.Keeping.{kept-next}
+use Rattle.twoway_type3.proofs.normal.add_cells.Statement.{statement}
+use Rattle.twoway_type3.proofs.normal.add_cells.Tie as tie
+
+abbrev Inv-loop : tie.InvT-loop
+Inv-loop a b counts work₀ c₀ c-end work c = (c-end ≡ cellsOf a b) × (length work ≡ length work₀) × (loop c (cellsOf a b) (λ d. addCell a b d (getD counts d 0)) (part 0 (a * b * (a * b + 1)) work) ≡ addCells a b counts (part 0 (a * b * (a * b + 1)) work₀)) × Kept a b counts rowsFrom c work
+
+abbrev μ-loop : tie.MeasureT-loop
+μ-loop a b counts work₀ c₀ c-end work c = c-end - c
+
+add-c-end : tie.Need-add-c-end Inv-loop μ-loop
+add-c-end c = omega arith
+
+add-c-end-2 : tie.Need-add-c-end-2 Inv-loop μ-loop
+add-c-end-2 c = omega arith
+
+mul-c-end : tie.Need-mul-c-end Inv-loop μ-loop
+mul-c-end c = let s = c .before .before in omega (arith, cells-few (s .args .a) (s .args .b) (s .pre .1) (s .pre .3))
+
+loop-holds : tie.Need-loop-holds Inv-loop μ-loop
+unfolding addCells
+loop-holds c = (refl, refl, refl, λ d l. absurd (not-suc-le-zero l))
+
+mul-add-cell : tie.Need-mul-add-cell Inv-loop μ-loop
+mul-add-cell c = let s = c .before .before .before .before in omega (arith, cells-few (s .args .a) (s .args .b) (s .pre .1) (s .pre .3))
+
+shared-slice-read-add-cell : tie.Need-shared-slice-read-add-cell Inv-loop μ-loop
+shared-slice-read-add-cell c = let s = c .before .before .before .before .before in omega (arith, cells-few (s .args .a) (s .args .b) (s .pre .1) (s .pre .3))
+
+add-cell-requires : tie.Need-add-cell-requires Inv-loop μ-loop
+add-cell-requires c κs = let s = c .before .before .before .before .before .before in
+    (s .pre .0, s .pre .1, s .pre .2, s .pre .3, omega arith, omega arith)
+
+add-c : tie.Need-add-c Inv-loop μ-loop
+add-c c = let s = c .before .before .before .before .before .before .before .before .before in
+    omega (arith, cells-few (s .args .a) (s .args .b) (s .pre .1) (s .pre .3))
+
+loop-less : tie.Need-loop-less Inv-loop μ-loop
+loop-less c = omega arith
+
+loop-again : tie.Need-loop-again Inv-loop μ-loop
+loop-again c = let l = c .before .before .before .before .before .before in
+    let i = l .loop .inv in
+    let s = l .before .before .before in
+    let e = c .before .before .add-cell .ensures in (
+      i .0,
+      omega arith,
+      step _ _ _ _ _ _ (i .2) (omega arith) (e .system),
+      kept-next (s .args .a) (s .args .b) (l .loop .c) (s .args .counts .now) (l .loop .work) _ (i .3) e,
+    )
+
+same-length : tie.Need-same-length Inv-loop μ-loop
+same-length c = omega arith
+
+returns : tie.Need-returns Inv-loop μ-loop
+returns c = let i = c .before .loop .inv in
+    (ends _ _ _ _ _ (i .2) (omega arith), λ d h. i .3 d (omega arith))
+
+pub add-cells-spec : {M : Type 1} → statement M
+add-cells-spec =
+    tie.close
+    (tie.spec
+    Inv-loop
+    μ-loop
+    add-c-end
+    add-c-end-2
+    mul-c-end
+    loop-holds
+    mul-add-cell
+    shared-slice-read-add-cell
+    add-cell-requires
+    add-c
+    loop-less
+    loop-again
+    same-length
+    returns)
