@@ -1,3 +1,4 @@
 pub mod Counts
 pub mod Design
 pub mod Guards
+pub mod Cells

@@ -18,7 +18,7 @@ use Rattle.twoway_type3.specs.Inner.{Fitting, addAt, addRow, addProducts
 use Rattle.twoway_type3.specs.Matrices.{table}
 use Rattle.twoway_type3.specs.Normal.{rowOf, productOf, normalAt}
 use Rattle.twoway_type3.proofs.Coded.{small-cell, cell-entry, cell-below, cells-few}
-use Rattle.twoway_type3.proofs.Tallies.{Small, Told, told, counts-give}
+use Rattle.twoway_type3.proofs.Tallies.{Small, Told, sumTo, hit, told, counted-hits, counts-give}
 use Rattle.twoway_type3.proofs.Ways.{changed, changed-same, own-ways, all-ways}
 
 module _ (values : List Float) (us vs : List ℕ) (a b : ℕ) (f : Fitting values us vs a b) where
@@ -29,6 +29,10 @@ module _ (values : List Float) (us vs : List ℕ) (a b : ℕ) (f : Fitting value
   pub told-counts : Told (cellAt us vs a b) (cellsOf a b) mostCounts (length values) (cells-few a b (f .most-a) (f .most-b)) inside (length values) (countsOf us vs a b)
   unfolding countsOf
   told-counts = rw (f .codes-a) (told (cellAt us vs a b) (cellsOf a b) mostCounts (length values) (cells-few a b (f .most-a) (f .most-b)) inside)
+
+  pub counts-tell : (c : ℕ) → c < cellsOf a b → getD (countsOf us vs a b) c 0 ≡ sumTo (λ r. hit c (cellAt us vs a b r)) (length values)
+  unfolding countsOf
+  counts-tell c h = rw (f .codes-a) (counted-hits (cellAt us vs a b) (cellsOf a b) mostCounts (length values) (cells-few a b (f .most-a) (f .most-b)) inside c h)
 
   -- the theorem: no bit of an entry turns on whether readings or cells are added up
   pub counted-entry : (j k : ℕ) → j < a * b → k < a * b → normalAt values us vs a b j k ≡ countedAt us vs a b j k

@@ -4,10 +4,10 @@ use mathlib.Core.Path.{_≡_, refl, sym, ap, _∙_}
 use mathlib.Core.Bool.{Bool, true, false, cond}
 use mathlib.Core.List.{List}
 use mathlib.Core.Logic.{_⊎_, inl, inr}
-use native.Mathlib.Nat.{not-suc-le-zero, mul-le-mul, mul-assoc, mul-zero, zero-mul, add-mul, one-mul}
+use native.Mathlib.Nat.{not-suc-le-zero, mul-le-mul, mul-assoc, mul-zero, mul-one, zero-mul, add-mul, one-mul}
 use native.Mathlib.Numerals.{add-one}
 use native.Mathlib.Omega.{arith}
-use borrow.Author.Tests.{eqb-true, eqb-false, ltb-true, ltb-false}
+use borrow.Author.Tests.{eqb-true, eqb-false, ne-eqb, ltb-true, ltb-false}
 use lib.Dec.{eqb, ltb}
 use lib.ListN.{length, getD, replicate, length-set, length-replicate}
 use lib.Seq.{getD-set-same, getD-set-other}
@@ -137,6 +137,24 @@ no-count zero c = refl
 no-count (suc m) zero = refl
 no-count (suc m) (suc c) = no-count m c
 
+-- is k the cell c?
+abbrev pub hit : ℕ → ℕ → ℕ
+hit c k = cond (eqb k c) 1 0
+
+no-hit : (ns : List ℕ) (c k : ℕ) → k ≤ c → sumTo (weighed (hit c) ns) k ≡ 0
+unfolding sumTo
+no-hit ns c zero l = refl
+no-hit ns c (suc k) l = rw (no-hit ns c k (omega arith), ne-eqb k c (λ q. omega arith), mul-zero (getD ns k 0))
+
+one-hit : (ns : List ℕ) (c k : ℕ) → c < k → sumTo (weighed (hit c) ns) k ≡ getD ns c 0
+unfolding sumTo
+one-hit ns c zero l = absurd (not-suc-le-zero l)
+one-hit ns c (suc k) l = go (λ m. one-hit ns c k m) (eqb k c) refl
+  where
+    go : (c < k → sumTo (weighed (hit c) ns) k ≡ getD ns c 0) → (b : Bool) → eqb k c ≡ b → sumTo (weighed (hit c) ns) k + getD ns k 0 * cond (eqb k c) 1 0 ≡ getD ns c 0
+    go r true e = let z : k ≡ c = eqb-true k c e in rw (e, mul-one (getD ns k 0), no-hit ns c k (omega arith), z) (omega arith)
+    go r false e = rw (e, mul-zero (getD ns k 0), r (omega (arith, eqb-false k c e))) (omega arith)
+
 -- reading i lies in the cell κ i, one of K; there are M places for counts
 module _ (κ : ℕ → ℕ) (K M n : ℕ) (room : K ≤ M) (below : (i : ℕ) → i < n → κ i < K) where
   -- what the counts tell of the first i readings
@@ -181,6 +199,10 @@ module _ (κ : ℕ → ℕ) (K M n : ℕ) (room : K ≤ M) (below : (i : ℕ) �
 
   pub told : Told n (loop 0 n counting (replicate M 0))
   told = walks counting Told n told-next 0 (replicate M 0) (omega arith) told-first
+
+  -- so a count is the number of the readings in its cell
+  pub counted-hits : (c : ℕ) → c < K → getD (loop 0 n counting (replicate M 0)) c 0 ≡ sumTo (λ r. hit c (κ r)) n
+  counted-hits c h = sym (one-hit (loop 0 n counting (replicate M 0)) c K h) ∙ told .sums (hit c)
 
   -- ---- x and y are what two columns of the design matrix hold in each cell
   module _ (x y : ℕ → Float) (sx : (c : ℕ) → Small (x c)) (sy : (c : ℕ) → Small (y c)) (most : n ≤ 512) where
