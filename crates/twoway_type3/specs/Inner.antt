@@ -10,6 +10,7 @@ use Rattle.base.specs.Limits.{mostReadings, mostLevels, mostCells}
 use Rattle.base.specs.Lists.{part}
 use Rattle.base.specs.Loop.{loop}
 use Rattle.float.specs.Words.{_⊕_, _⊗_, count}
+use Rattle.matrix_linear.specs.Inverse.{zeroAt}
 use Rattle.matrix_linear.specs.Rows.{at}
 use Rattle.twoway_type3.specs.Counted.{cellsOf, cellRow}
 use Rattle.twoway_type3.specs.Matrices.{halfOf}
@@ -18,6 +19,18 @@ use Rattle.twoway_type3.specs.Normal.{normalAt}
 -- place q of a left half that is laid out for the inverse (`halfOf`)
 abbrev pub halfAt : ℕ → ℕ → ℕ → List Float → ℕ → Float
 halfAt n from w m q = halfOf n from w m (q / (2 * n)) (q % (2 * n))
+
+-- `work[p + j] = work[q + j]`
+abbrev pub copyAt : ℕ → ℕ → ℕ → List Float → List Float
+copyAt q p j m = set m (p + j) (at m (q + j))
+
+-- one row of it: the n places from q on come to p, and n zeros behind them
+unfoldable pub halfRow : ℕ → ℕ → ℕ → List Float → List Float
+halfRow n q p m = loop 0 n (zeroAt (p + n)) (loop 0 n (copyAt q p) m)
+
+-- row i of a block whose rows begin at `from` and lie w apart comes to row i of those that begin at `to`
+abbrev pub halfStep : ℕ → ℕ → ℕ → ℕ → ℕ → List Float → List Float
+halfStep to n from w i m = halfRow n (from + i * w) (to + i * (2 * n)) m
 
 -- where the inverse lies in the lent memory: behind a system of the most cells
 abbrev pub inverseFrom : ℕ
