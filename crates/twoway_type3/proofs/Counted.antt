@@ -1,19 +1,17 @@
 -- X'X from the counts of the cells is that of the definition, bit for bit; and so are the normal equations that are built from it.
-use Prim.Native.Nat.{ℕ, _+_, _*_, _/_, _%_, _<_, _≤_}
-use mathlib.Core.Path.{_≡_, refl, sym, ap, _∙_}
-use mathlib.Core.Bool.{Bool, true, false, cond}
+use Prim.Native.Nat.{ℕ, _+_, _*_, _/_, _%_, _<_}
+use mathlib.Core.Path.{_≡_, refl, _∙_}
+use mathlib.Core.Bool.{Bool, true, false}
 use mathlib.Core.List.{List}
 use native.Mathlib.Omega.{arith}
 use lib.Dec.{eqb}
-use lib.ListN.{length, getD, replicate}
+use lib.ListN.{length, getD}
 use lib.Ieee.{Float, nan}
-use Rattle.base.specs.Limits.{mostReadings}
-use Rattle.base.specs.Loop.{loop}
 use Rattle.base.proofs.Loops.{loop-map}
 use Rattle.float.specs.Words.{_⊕_, _⊗_, count, plusZero}
 use Rattle.matrix_linear.specs.Rows.{at}
 use Rattle.lent.specs.Wiping.{zeros}
-use Rattle.twoway_type3.specs.Counted.{cellsOf, cellRow, cellAt, countAt, countsOf, mostCounts, cellAdds, countedAt}
+use Rattle.twoway_type3.specs.Counted.{cellsOf, cellRow, cellAt, countsOf, mostCounts, cellAdds, countedAt}
 use Rattle.twoway_type3.specs.Inner.{Fitting, addAt, addRow, addProducts, addCell, addCells}
 use Rattle.twoway_type3.specs.Matrices.{table}
 use Rattle.twoway_type3.specs.Normal.{rowOf, productOf, normalAt}

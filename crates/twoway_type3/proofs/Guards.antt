@@ -1,6 +1,6 @@
 -- What fits passes the guards of the solver and of the inverses: none of them leaves a matrix as it was.
 use Prim.Native.Nat.{ℕ, _+_, _*_, _≤_}
-use mathlib.Core.Path.{_≡_, ap}
+use mathlib.Core.Path.{_≡_}
 use mathlib.Core.Bool.{true}
 use mathlib.Core.List.{List}
 use native.Mathlib.Omega.{arith}
@@ -14,7 +14,7 @@ use Rattle.matrix_linear.specs.Inverse.{unit, fullColumns, matrixInverse}
 use Rattle.twoway_type3.specs.Answer.{beta, inverse}
 use Rattle.twoway_type3.specs.Inner.{mostColumns}
 use Rattle.twoway_type3.specs.Matrices.{leftHalf, table}
-use Rattle.twoway_type3.specs.Normal.{normalAt, normalSystem}
+use Rattle.twoway_type3.specs.Normal.{normalSystem}
 use Rattle.twoway_type3.specs.Wald.{covInv}
 use Rattle.twoway_type3.proofs.Chains.{half-length}
 use Rattle.twoway_type3.proofs.Halves.{length-places}

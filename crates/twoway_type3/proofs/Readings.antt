@@ -8,7 +8,7 @@ use native.Mathlib.Numerals.{add-one}
 use native.Mathlib.Omega.{arith}
 use borrow.Author.Tests.{eqb-true, eqb-false, eq-eqb, ne-eqb}
 use lib.Dec.{eqb}
-use lib.ListN.{length, getD, set, take, getD-replicate}
+use lib.ListN.{length, getD, getD-replicate}
 use lib.Seq.{getD-take}
 use lib.Ieee.{Float, nan}
 use Rattle.base.specs.Limits.{mostCells}
@@ -20,7 +20,7 @@ use Rattle.lent.specs.Wiping.{zeros}
 use Rattle.matrix_linear.specs.Rows.{at}
 use Rattle.twoway_type3.specs.Counted.{cellsOf, cellRow, cellAt, countsOf, countedAt}
 use Rattle.twoway_type3.specs.Inner.{Fitting, Kept, valueAt, addValue, ValueSums, columnAt, putColumn, addCells}
-use Rattle.twoway_type3.specs.Matrices.{places, table}
+use Rattle.twoway_type3.specs.Matrices.{table}
 use Rattle.twoway_type3.specs.Normal.{rowOf, productOf, normalAt, normalSystem}
 use Rattle.twoway_type3.proofs.Coded.{cell-entry, cell-below}
 use Rattle.twoway_type3.proofs.Columns.{row-value}

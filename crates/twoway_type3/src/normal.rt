@@ -5,7 +5,7 @@ use crate::counts::count_cells;
 ghost use mathlib.Core.Path.{_≡_};
 ghost use Prim.Native.Nat.{_+_, _*_, _≤_, _<_};
 ghost use lib.ListN.{length};
-ghost use Rattle.base.specs.Limits.{mostLevels, mostReadings, scratchPlaces};
+ghost use Rattle.base.specs.Limits.{mostLevels, scratchPlaces};
 ghost use Rattle.base.specs.Lists.{part};
 ghost use Rattle.float.specs.Words.{_⊗_};
 ghost use Rattle.twoway_type3.specs.Counted.{cellsOf, countsOf, mostCounts};
