@@ -6,4 +6,3 @@ pub mod Signs
 pub mod Operands
 pub mod Values
 pub mod Powers
-pub mod Wholes

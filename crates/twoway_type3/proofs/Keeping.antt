@@ -2,11 +2,11 @@
 use Prim.Native.Nat.{ℕ, _+_, _*_, _<_, _≤_}
 use mathlib.Core.Path.{_≡_, refl, sym, ap, _∙_}
 use mathlib.Core.Bool.{Bool, true, false}
-use mathlib.Core.List.{List, _++_, append-nil}
+use mathlib.Core.List.{List, _++_}
 use native.Mathlib.Omega.{arith}
-use borrow.Author.Tests.{ltb-true, ltb-false, le-ltb, eq-eqb, ne-eqb}
+use borrow.Author.Tests.{ltb-true, ltb-false, eq-eqb, ne-eqb}
 use lib.Dec.{ltb}
-use lib.ListN.{length, getD, take, drop, drop-of-length-le}
+use lib.ListN.{length, getD, take, drop}
 use lib.Seq.{length-take-le}
 use lib.Ieee.{Float}
 use Rattle.base.specs.Limits.{mostCells, mostLevels, scratchPlaces}
@@ -15,6 +15,7 @@ use Rattle.base.proofs.Bounds.{row-end, product-le}
 use Rattle.float.specs.Words.{count}
 use Rattle.lent.specs.Laying.{laid}
 use Rattle.lent.specs.Wiping.{zeros, wiped}
+use Rattle.lent.proofs.Lays.{laid-all}
 use Rattle.lent.proofs.Wipes.{wiped-short}
 use Rattle.twoway_type3.specs.Counted.{cellsOf, cellRow, countsOf, mostCounts}
 use Rattle.twoway_type3.specs.Inner.{Fitting, CellAdded, Kept, rowsFrom, addProducts, addCell, addCells, ValueSums, putColumn}
@@ -23,11 +24,6 @@ use Rattle.twoway_type3.proofs.Coded.{cells-few}
 use Rattle.twoway_type3.proofs.Lent.{length-part, part-part, laid-length, laid-same, laid-before, laid-after}
 use Rattle.twoway_type3.proofs.Readings.{system-built}
 use Rattle.twoway_type3.proofs.Sizes.{cells-most, system-most}
-
--- numbers put into as many places
-put-all : (xs out : List Float) → length out ≡ length xs → laid xs out ≡ xs
-unfolding laid
-put-all xs out e = rw (le-ltb (length out) (length xs) (omega arith), drop-of-length-le out {i = length xs} (omega arith)) (append-nil xs)
 
 -- the system ends before the rows begin, and all rows lie in the lent memory
 abbrev pub Room : ℕ → ℕ → Type 0
@@ -85,7 +81,7 @@ module _ (a b c n : ℕ) (room : Room a b) (inside : c < cellsOf a b) (w₀ : Li
       taken = length-take-le p x wide
 
       r₂ : x₂ ≡ take p x
-      r₂ = e₂ ∙ put-all (take p x) (part q p w₁) (length-part q p w₁ room₁ ∙ sym taken)
+      r₂ = e₂ ∙ laid-all (take p x) (part q p w₁) (length-part q p w₁ room₁ ∙ sym taken)
 
       l₂ : length x₂ ≡ p
       l₂ = ap length r₂ ∙ taken

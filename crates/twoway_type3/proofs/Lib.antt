@@ -1,6 +1,7 @@
 pub mod Fitted
 pub mod Ways
 pub mod Built
+pub mod Wholes
 pub mod Tallies
 pub mod Coded
 pub mod Counted

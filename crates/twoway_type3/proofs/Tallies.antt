@@ -17,7 +17,7 @@ use Rattle.base.specs.Loop.{loop}
 use Rattle.base.proofs.Walks.{walks}
 use Rattle.base.proofs.Bounds.{product-le}
 use Rattle.float.specs.Words.{_⊕_, _⊗_, count, plusZero}
-use Rattle.float.proofs.Wholes.{product-value, between, ones-more, minus-ones-more}
+use Rattle.twoway_type3.proofs.Wholes.{product-value, between, ones-more, minus-ones-more}
 use Rattle.twoway_type3.specs.Counted.{oneMore}
 
 -- ---- sums in whole numbers

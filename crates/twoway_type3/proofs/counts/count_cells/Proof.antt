@@ -18,11 +18,18 @@ Inv-loop factor-a factor-b a b counts₀ i₀ i-end counts i = (i-end ≡ length
 abbrev μ-loop : tie.MeasureT-loop
 μ-loop factor-a factor-b a b counts₀ i₀ i-end counts i = i-end - i
 
+-- the turn's begin, seen from where the reading's cell is known; and the start, seen from a turn's begin
+abbrev turn : tie.After-cell-of Inv-loop μ-loop → tie.At-loop Inv-loop μ-loop
+turn c = c .before .before .before .before
+
+abbrev start : tie.At-loop Inv-loop μ-loop → tie.Start Inv-loop μ-loop
+start c = c .before .before .before
+
 -- the cell is a place of the counts
 place : (c : tie.After-cell-of Inv-loop μ-loop) → c .cell-of .result < mostCounts
 place c =
-    let s = c .before .before .before .before .before .before .before in
-    let l = c .before .before .before .before in
+    let l = turn c in
+    let s = start l in
     let u = getD (s .args .factor-a .now) (l .loop .i) 0 in
     let v = getD (s .args .factor-b .now) (l .loop .i) 0 in
     let e : c .cell-of .result ≡ cellOf (s .args .a) (s .args .b) u v = c .cell-of .ensures in
@@ -54,7 +61,7 @@ array-read-counts : tie.Need-array-read-counts Inv-loop μ-loop
 array-read-counts c = place c
 
 add-counts : tie.Need-add-counts Inv-loop μ-loop
-add-counts c = let l = c .before .before .before .before in
+add-counts c = let l = turn c in
     omega (arith, l .loop .inv .2 (c .cell-of .result))
 
 mul-counts-2 : tie.Need-mul-counts-2 Inv-loop μ-loop
@@ -70,7 +77,7 @@ loop-less : tie.Need-loop-less Inv-loop μ-loop
 loop-less c = omega arith
 
 loop-again : tie.Need-loop-again Inv-loop μ-loop
-loop-again c = let l = c .before .before .before .before in
+loop-again c = let l = turn c in
     let i = l .loop .inv in
     let p = place c in (
       i .0,

@@ -1,5 +1,5 @@
 -- Cell after cell is added, and the rows of those before it stay.
-use Prim.Native.Nat.{_-_, _+_, _*_}
+use Prim.Native.Nat.{_-_, _+_, _*_, _≤_}
 use mathlib.Core.Path.{_≡_, refl}
 use native.Mathlib.Nat.{not-suc-le-zero}
 use native.Mathlib.Omega.{arith}
@@ -7,7 +7,7 @@ use lib.ListN.{length, getD}
 use Rattle.base.specs.Lists.{part}
 use Rattle.base.specs.Loop.{loop}
 use Rattle.base.proofs.Loops.{step, ends}
-use Rattle.twoway_type3.specs.Counted.{cellsOf}
+use Rattle.twoway_type3.specs.Counted.{cellsOf, mostCounts}
 use Rattle.twoway_type3.specs.Inner.{Kept, rowsFrom, addCell, addCells}
 use Rattle.twoway_type3.proofs.Coded.{cells-few}
 use Rattle.twoway_type3.proofs.Keeping.{kept-next}
@@ -15,10 +15,21 @@ use Rattle.twoway_type3.proofs.normal.add_cells.Statement.{statement}
 use Rattle.twoway_type3.proofs.normal.add_cells.Tie as tie
 
 abbrev Inv-loop : tie.InvT-loop
-Inv-loop a b counts work₀ c₀ c-end work c = (c-end ≡ cellsOf a b) × (length work ≡ length work₀) × (loop c (cellsOf a b) (λ d. addCell a b d (getD counts d 0)) (part 0 (a * b * (a * b + 1)) work) ≡ addCells a b counts (part 0 (a * b * (a * b + 1)) work₀)) × Kept a b counts rowsFrom c work
+Inv-loop a b counts work₀ c₀ c-end work c = (let z = a * b * (a * b + 1) in (c-end ≡ cellsOf a b) × (length work ≡ length work₀) × (loop c (cellsOf a b) (λ d. addCell a b d (getD counts d 0)) (part 0 z work) ≡ addCells a b counts (part 0 z work₀)) × Kept a b counts rowsFrom c work)
 
 abbrev μ-loop : tie.MeasureT-loop
 μ-loop a b counts work₀ c₀ c-end work c = c-end - c
+
+-- the start, seen from a turn's begin; and that, seen from behind the call
+abbrev start : tie.At-loop Inv-loop μ-loop → tie.Start Inv-loop μ-loop
+start c = c .before .before .before
+
+abbrev turn : tie.After-slice-known2 Inv-loop μ-loop → tie.At-loop Inv-loop μ-loop
+turn c = c .before .before .before .before .before .before
+
+-- there are few cells
+few : (s : tie.Start Inv-loop μ-loop) → cellsOf (s .args .a) (s .args .b) ≤ mostCounts
+few s = cells-few (s .args .a) (s .args .b) (s .pre .1) (s .pre .3)
 
 add-c-end : tie.Need-add-c-end Inv-loop μ-loop
 add-c-end c = omega arith
@@ -27,33 +38,32 @@ add-c-end-2 : tie.Need-add-c-end-2 Inv-loop μ-loop
 add-c-end-2 c = omega arith
 
 mul-c-end : tie.Need-mul-c-end Inv-loop μ-loop
-mul-c-end c = let s = c .before .before in omega (arith, cells-few (s .args .a) (s .args .b) (s .pre .1) (s .pre .3))
+mul-c-end c = omega (arith, few (c .before .before))
 
 loop-holds : tie.Need-loop-holds Inv-loop μ-loop
 unfolding addCells
 loop-holds c = (refl, refl, refl, λ d l. absurd (not-suc-le-zero l))
 
 mul-add-cell : tie.Need-mul-add-cell Inv-loop μ-loop
-mul-add-cell c = let s = c .before .before .before .before in omega (arith, cells-few (s .args .a) (s .args .b) (s .pre .1) (s .pre .3))
+mul-add-cell c = omega (arith, few (start (c .before)))
 
 shared-slice-read-add-cell : tie.Need-shared-slice-read-add-cell Inv-loop μ-loop
-shared-slice-read-add-cell c = let s = c .before .before .before .before .before in omega (arith, cells-few (s .args .a) (s .args .b) (s .pre .1) (s .pre .3))
+shared-slice-read-add-cell c = omega (arith, few (start (c .before .before)))
 
 add-cell-requires : tie.Need-add-cell-requires Inv-loop μ-loop
-add-cell-requires c κs = let s = c .before .before .before .before .before .before in
+add-cell-requires c κs = let s = start (c .before .before .before) in
     (s .pre .0, s .pre .1, s .pre .2, s .pre .3, omega arith, omega arith)
 
 add-c : tie.Need-add-c Inv-loop μ-loop
-add-c c = let s = c .before .before .before .before .before .before .before .before .before in
-    omega (arith, cells-few (s .args .a) (s .args .b) (s .pre .1) (s .pre .3))
+add-c c = omega (arith, few (start (turn c)))
 
 loop-less : tie.Need-loop-less Inv-loop μ-loop
 loop-less c = omega arith
 
 loop-again : tie.Need-loop-again Inv-loop μ-loop
-loop-again c = let l = c .before .before .before .before .before .before in
+loop-again c = let l = turn c in
     let i = l .loop .inv in
-    let s = l .before .before .before in
+    let s = start l in
     let e = c .before .before .add-cell .ensures in (
       i .0,
       omega arith,

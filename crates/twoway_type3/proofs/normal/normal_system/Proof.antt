@@ -126,7 +126,9 @@ returns c = let t = c .before .before in
     let w = counted k .before .before .before in
     let s = begin k in
     let p = s .args .a * s .args .b in
-    system-lent (s .args .values .now) (s .args .factor-a .now) (s .args .factor-b .now) (s .args .a) (s .args .b) (s .pre .0) (p * (p + 1) - 0) (omega arith) (counted k .count-cells .ensures) (s .args .work .now) _ (v .value-sums .result) (s .pre .1) (long k) (w .wipe .ensures) (omega arith) (k .before .before .add-cells .ensures .0) (v .value-sums .ensures) (t .put-column .ensures) (omega arith)
+    system-lent (s .args .values .now) (s .args .factor-a .now) (s .args .factor-b .now) (s .args .a) (s .args .b) (s .pre .0)
+    (p * (p + 1) - 0) (omega arith) (counted k .count-cells .ensures) (s .args .work .now) _ (v .value-sums .result) (s .pre .1) (long k)
+    (w .wipe .ensures) (omega arith) (k .before .before .add-cells .ensures .0) (v .value-sums .ensures) (t .put-column .ensures) (omega arith)
 
 pub normal-system-spec : {M : Type 1} → statement M
 normal-system-spec =

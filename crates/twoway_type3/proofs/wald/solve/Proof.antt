@@ -94,7 +94,9 @@ returns c = let m = c .before .before in
     let s = n .before .before .before .before .before .before in
     let p = s .args .a * s .args .b in
     let k = sizes s in
-    solve-lent (s .args .values .now) (s .args .factor-a .now) (s .args .factor-b .now) (s .args .a) (s .args .b) (k .0) (k .1) (p * (p + 1) - 0) (inverseFrom + p * (2 * p) - inverseFrom) (omega arith) (omega arith) _ (n .normal-system .ensures) (long (h .before .before)) (h .left-half .ensures) (o .solve-linear-system .ensures) (m .matrix-inverse .ensures)
+    solve-lent (s .args .values .now) (s .args .factor-a .now) (s .args .factor-b .now) (s .args .a) (s .args .b) (k .0) (k .1)
+    (p * (p + 1) - 0) (inverseFrom + p * (2 * p) - inverseFrom) (omega arith) (omega arith) _
+    (n .normal-system .ensures) (long (h .before .before)) (h .left-half .ensures) (o .solve-linear-system .ensures) (m .matrix-inverse .ensures)
 
 pub solve-spec : {M : Type 1} → statement M
 solve-spec =
