@@ -1,13 +1,17 @@
--- Words for lists: sums of sizes, a list cut into groups, one list laid over another, a part of a list, pieces laid one after another, places filled one by one.
+-- Words for lists: sums of sizes, counts, a list cut into groups, one list laid over another, a part of a list, pieces laid one after another, places filled one by one.
 use Prim.Native.Nat.{ℕ, _+_}
 use mathlib.Core.List.{List, [], _∷_, _++_, map, flatten}
-use lib.ListN.{length, take, drop, set, replicate}
+use lib.ListN.{length, getD, take, drop, set, replicate}
 use Rattle.base.specs.Loop.{loop}
 
 -- the sum of these sizes
 unfoldable pub total : List ℕ → ℕ
 total [] = 0
 total (n ∷ ns) = n + total ns
+
+-- counts, of which the one at place k is one more
+abbrev pub bump : List ℕ → ℕ → List ℕ
+bump ns k = set ns k (getD ns k 0 + 1)
 
 module _ {A : Type 0} where
   -- the list cut into groups of these sizes, one after another

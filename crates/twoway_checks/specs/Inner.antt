@@ -4,8 +4,9 @@ use Prim.Native.Nat.{ℕ, _<_, _≤_, _+_, _*_}
 use mathlib.Core.Path.{_≡_}
 use mathlib.Core.List.{List, [], _∷_, foldl, map}
 use lib.Ieee.{Float}
-use lib.ListN.{length, getD, set}
+use lib.ListN.{length}
 use Rattle.base.specs.Limits.{mostReadings, mostLevels}
+pub use Rattle.base.specs.Lists.{bump}
 use Rattle.twoway_checks.specs.Checks.{largest, levels, cellsRefusal}
 use Rattle.base.specs.Refusals.{guarded}
 use Rattle.twoway_checks.specs.declared.TwoWayData.{TwoWayData}
@@ -55,8 +56,5 @@ unfoldable pub sorted : List ℕ → List Float → List (List Float)
 sorted ks xs = map (λ (c : ℕ). keyed c ks xs) (numbers 0 36)
 
 -- how many readings each key has: one more in its place for each
-abbrev pub bump : List ℕ → ℕ → List ℕ
-bump ns k = set ns k (getD ns k 0 + 1)
-
 unfoldable pub tally : List ℕ → List ℕ
 tally ks = foldl bump noCounts ks

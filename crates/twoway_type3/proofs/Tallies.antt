@@ -13,12 +13,12 @@ use lib.Seq.{getD-set-same, getD-set-other}
 use lib.Ieee.{Float, binary64, round, ofBits, ofInt, unlike}
 use lib.Ieee.Exact.{HasValue}
 use lib.Ieee.Back.{round-whole}
+use Rattle.base.specs.Lists.{bump}
 use Rattle.base.specs.Loop.{loop}
 use Rattle.base.proofs.Walks.{walks}
 use Rattle.base.proofs.Bounds.{product-le}
 use Rattle.float.specs.Words.{_⊕_, _⊗_, count, plusZero}
 use Rattle.twoway_type3.proofs.Wholes.{product-value, between, ones-more, minus-ones-more}
-use Rattle.twoway_type3.specs.Counted.{oneMore}
 
 -- ---- sums in whole numbers
 unfoldable pub sumTo : (ℕ → ℕ) → ℕ → ℕ
@@ -100,34 +100,34 @@ module _ (f : ℕ → Float → Float) (u d : ℕ → ℕ) (n : ℕ) (each : (i 
 abbrev pub weighed : (ℕ → ℕ) → List ℕ → ℕ → ℕ
 weighed u ns c = getD ns c 0 * u c
 
-more-before : (u : ℕ → ℕ) (ns : List ℕ) (k n : ℕ) → n ≤ k → sumTo (weighed u (oneMore ns k)) n ≡ sumTo (weighed u ns) n
+more-before : (u : ℕ → ℕ) (ns : List ℕ) (k n : ℕ) → n ≤ k → sumTo (weighed u (bump ns k)) n ≡ sumTo (weighed u ns) n
 unfolding sumTo
 more-before u ns k zero l = refl
 more-before u ns k (suc n) l =
-    let e : getD (oneMore ns k) n 0 ≡ getD ns n 0 = getD-set-other ns k n (getD ns k 0 + 1) 0 (λ q. omega arith) in
+    let e : getD (bump ns k) n 0 ≡ getD ns n 0 = getD-set-other ns k n (getD ns k 0 + 1) 0 (λ q. omega arith) in
     rw (more-before u ns k n (omega arith), e)
 
-more-there : (u : ℕ → ℕ) (ns : List ℕ) (k n : ℕ) → k < length ns → k < n → sumTo (weighed u (oneMore ns k)) n ≡ sumTo (weighed u ns) n + u k
+more-there : (u : ℕ → ℕ) (ns : List ℕ) (k n : ℕ) → k < length ns → k < n → sumTo (weighed u (bump ns k)) n ≡ sumTo (weighed u ns) n + u k
 unfolding sumTo
 more-there u ns k zero h l = absurd (not-suc-le-zero l)
 more-there u ns k (suc n) h l = go (λ m. more-there u ns k n h m) (eqb n k) refl
   where
-    go : (k < n → sumTo (weighed u (oneMore ns k)) n ≡ sumTo (weighed u ns) n + u k) → (b : Bool) → eqb n k ≡ b
-        → sumTo (weighed u (oneMore ns k)) n + getD (oneMore ns k) n 0 * u n ≡ sumTo (weighed u ns) n + getD ns n 0 * u n + u k
+    go : (k < n → sumTo (weighed u (bump ns k)) n ≡ sumTo (weighed u ns) n + u k) → (b : Bool) → eqb n k ≡ b
+        → sumTo (weighed u (bump ns k)) n + getD (bump ns k) n 0 * u n ≡ sumTo (weighed u ns) n + getD ns n 0 * u n + u k
     go r true e =
         let z : n ≡ k = eqb-true n k e in
-        let s : getD (oneMore ns k) k 0 ≡ getD ns k 0 + 1 = getD-set-same ns k (getD ns k 0 + 1) 0 h in
+        let s : getD (bump ns k) k 0 ≡ getD ns k 0 + 1 = getD-set-same ns k (getD ns k 0 + 1) 0 h in
         let m : (getD ns k 0 + 1) * u k ≡ getD ns k 0 * u k + u k = add-mul (getD ns k 0) 1 (u k) ∙ ap (λ (x : ℕ). getD ns k 0 * u k + x) (one-mul (u k)) in
         rw z (rw (more-before u ns k k (omega arith), s, m) (omega arith))
     go r false e =
-        let o : getD (oneMore ns k) n 0 ≡ getD ns n 0 = getD-set-other ns k n (getD ns k 0 + 1) 0 (λ q. eqb-false n k e q) in
+        let o : getD (bump ns k) n 0 ≡ getD ns n 0 = getD-set-other ns k n (getD ns k 0 + 1) 0 (λ q. eqb-false n k e q) in
         rw o (omega (arith, r (omega (arith, eqb-false n k e))))
 
 -- no count is less than it was, and none more than one more
-pub one-more : (ns : List ℕ) (k c : ℕ) → k < length ns → (getD ns c 0 ≤ getD (oneMore ns k) c 0) × (getD (oneMore ns k) c 0 ≤ getD ns c 0 + 1)
+pub one-more : (ns : List ℕ) (k c : ℕ) → k < length ns → (getD ns c 0 ≤ getD (bump ns k) c 0) × (getD (bump ns k) c 0 ≤ getD ns c 0 + 1)
 one-more ns k c h = go (eqb c k) refl
   where
-    go : (b : Bool) → eqb c k ≡ b → (getD ns c 0 ≤ getD (oneMore ns k) c 0) × (getD (oneMore ns k) c 0 ≤ getD ns c 0 + 1)
+    go : (b : Bool) → eqb c k ≡ b → (getD ns c 0 ≤ getD (bump ns k) c 0) × (getD (bump ns k) c 0 ≤ getD ns c 0 + 1)
     go true e = let z : c ≡ k = eqb-true c k e in let s = getD-set-same ns k (getD ns k 0 + 1) 0 h in rw z (omega (arith, s), omega (arith, s))
     go false e = let s = getD-set-other ns k c (getD ns k 0 + 1) 0 (λ q. eqb-false c k e q) in (omega (arith, s), omega (arith, s))
 
@@ -164,7 +164,7 @@ module _ (κ : ℕ → ℕ) (K M n : ℕ) (room : K ≤ M) (below : (i : ℕ) �
     pub some : (r : ℕ) → r < i → 0 < getD ns (κ r) 0
 
   abbrev counting : ℕ → List ℕ → List ℕ
-  counting i ns = oneMore ns (κ i)
+  counting i ns = bump ns (κ i)
 
   none-yet : (u : ℕ → ℕ) (k : ℕ) → sumTo (weighed u (replicate M 0)) k ≡ 0
   unfolding sumTo

@@ -4,17 +4,14 @@ use Prim.Native.Nat.{ℕ, _+_, _*_, _/_, _%_, min}
 use mathlib.Core.Bool.{cond}
 use mathlib.Core.List.{List}
 use lib.Dec.{eqb}
-use lib.ListN.{length, getD, set, replicate}
+use lib.ListN.{length, getD, replicate}
 use lib.Ieee.{Float}
 use Rattle.base.specs.Limits.{mostLevels}
+use Rattle.base.specs.Lists.{bump}
 use Rattle.base.specs.Loop.{loop}
 use Rattle.float.specs.Words.{_⊕_, _⊗_, count, plusZero}
 use Rattle.matrix_linear.specs.Rows.{at}
 use Rattle.twoway_type3.specs.Coding.{designRow}
-
--- one reading more for the cell c
-abbrev pub oneMore : List ℕ → ℕ → List ℕ
-oneMore ns c = set ns c (getD ns c 0 + 1)
 
 module _ (a b : ℕ) where
   -- the cell of a reading with the codes u and v, by A, then by B. All codes beyond a factor's levels have the same columns: they count as one level more
@@ -40,7 +37,7 @@ module _ (us vs : List ℕ) (a b : ℕ) where
 
   -- reading i is counted
   abbrev pub countAt : ℕ → List ℕ → List ℕ
-  countAt i ns = oneMore ns (cellAt i)
+  countAt i ns = bump ns (cellAt i)
 
   -- how many readings each cell has
   unfoldable pub countsOf : List ℕ

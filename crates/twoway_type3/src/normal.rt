@@ -13,7 +13,7 @@ ghost use Rattle.twoway_type3.specs.Inner.{Fitting, CellAdded, Kept, row
 ghost use Rattle.twoway_type3.specs.Normal.{normalSystem};
 
 // Where the rows of codes of the cells are kept: behind the system.
-const ROWS: usize = base::MOST_CELLS * (base::MOST_CELLS + 1);
+pub const ROWS: usize = base::MOST_CELLS * (base::MOST_CELLS + 1);
 
 // Row j of the equations gets n times the products of code j with all codes.
 fn add_row(x: &[f64], n: f64, w: usize, j: usize, m: &mut [f64])

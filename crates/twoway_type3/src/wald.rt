@@ -11,8 +11,8 @@ ghost use Rattle.twoway_type3.specs.Inner.{Fitting, inverseFrom, blockFr
 ghost use Rattle.twoway_type3.specs.Wald.{waldRow, waldSum, waldSs};
 ghost use Rattle.twoway_type3.specs.Answer.{beta, inverse, allEffects};
 
-// Where the inverse of X'X lies, behind the system, and where an effect's block lies, behind both.
-const INVERSE: usize = base::MOST_CELLS * (base::MOST_CELLS + 1);
+// Where the inverse of X'X lies, behind the system, once the rows of the cells are done with; and where an effect's block lies, behind both.
+const INVERSE: usize = crate::normal::ROWS;
 
 const BLOCK: usize = INVERSE + base::MOST_CELLS * (2 * base::MOST_CELLS);
 

@@ -4,9 +4,10 @@ use mathlib.Core.Path.{_≡_, refl, ap}
 use native.Mathlib.Omega.{arith}
 use borrow.Author.Needs.{needs}
 use lib.ListN.{length, getD, length-set}
+use Rattle.base.specs.Lists.{bump}
 use Rattle.base.specs.Loop.{loop}
 use Rattle.base.proofs.Loops.{step, ends}
-use Rattle.twoway_type3.specs.Counted.{cellOf, countAt, countsOf, mostCounts, oneMore}
+use Rattle.twoway_type3.specs.Counted.{cellOf, countAt, countsOf, mostCounts}
 use Rattle.twoway_type3.proofs.Coded.{cell-below, cells-few}
 use Rattle.twoway_type3.proofs.Tallies.{no-count, one-more}
 use Rattle.twoway_type3.proofs.counts.count_cells.Statement.{statement}
@@ -83,7 +84,7 @@ loop-again c = let l = turn c in
       i .0,
       simp length-set (i .1),
       (λ d. omega (arith, i .2 d, one-more (l .loop .counts) (c .cell-of .result) d (omega arith))),
-      step _ _ _ _ _ _ (i .3) (omega arith) (ap (oneMore (l .loop .counts)) (c .cell-of .ensures)),
+      step _ _ _ _ _ _ (i .3) (omega arith) (ap (bump (l .loop .counts)) (c .cell-of .ensures)),
     )
 
 returns : tie.Need-returns Inv-loop μ-loop
