@@ -5,6 +5,9 @@
 oracle=${ORACLE:-$PWD/../shared/oracle}
 rust=$PWD/target/oracle/release
 
+# Some requests change answers of older kinds, so the oracle is told which are in the library: answers are as from this one on.
+since=W-203
+
 # rt builds for x86-64, whatever the machine is: the C compiler whose programs can be linked with our libraries, and what reads their code. tests/x86 runs such programs.
 machine=$(uname -m)
 case $machine in
@@ -55,6 +58,9 @@ build_c() {
         cc -O2 -ffp-contract=off -o "$work/$name" "tests/compare/$name.c" -lm || fail "tests/compare/$name.c was not compiled (cc's words above)"
     done
 }
+
+# theirs: the oracle's answers to a stream.
+theirs() { "$rust/stream" answer --from "$since"; }
 
 # packed COMMAND..: the lines that a command of the Rust writes, as a stream.
 packed() {

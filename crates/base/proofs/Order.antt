@@ -67,6 +67,15 @@ module _ {A : Type 0} (q : Refusal) (refused : Refusal → A) (numbers : A) wher
   unfolding guarded
   refused-answer n = rw (ne-eqb (q .number) 0 n)
 
+  -- what holds of the numbers and of the refused answer holds of the answer
+  pub either-answer : (P : A → Type 0) → (q .number ≡ 0 → P numbers) → P (refused q) → P (guarded q refused numbers)
+  unfolding guarded
+  either-answer P passed not-passed = go (eqb (q .number) 0) refl
+    where
+      go : (b : Bool) → eqb (q .number) 0 ≡ b → P (cond b numbers (refused q))
+      go true e = passed (eqb-true (q .number) 0 e)
+      go false e = not-passed
+
   module _ (tell : A → Refusal) (tells : (r : Refusal) → tell (refused r) ≡ r) (fine : tell numbers ≡ none) where
     pub told : {a : A} → a ≡ guarded q refused numbers → tell a .number ≡ q .number
     unfolding guarded

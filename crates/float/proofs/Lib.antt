@@ -6,3 +6,5 @@ pub mod Signs
 pub mod Operands
 pub mod Values
 pub mod Powers
+pub mod Clear
+pub mod Gaps

@@ -1,3 +1,4 @@
 pub mod Adding
 pub mod Finding
 pub mod Passed
+pub mod Squares

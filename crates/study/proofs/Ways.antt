@@ -1,5 +1,5 @@
 -- The ways through a study: refused by two-way's checks, refused for want of balance, answered.
-use mathlib.Core.Path.{_≡_, refl, sym, ap, _∙_}
+use mathlib.Core.Path.{_≡_, sym, ap, _∙_}
 use mathlib.Core.List.{List}
 use Prim.Native.Nat.{ℕ, _*_, _≤_, _<_}
 use native.Mathlib.Omega.{arith}
@@ -9,7 +9,6 @@ use lib.ListN.{length, getD, take, length-append, length-replicate, length-drop}
 use lib.Seq.{getD-take, length-take-le}
 use Rattle.base.specs.declared.Refusal.{Refusal}
 use Rattle.base.specs.Lists.{over}
-use Rattle.base.specs.Refusals.{_orElse_}
 use Rattle.base.proofs.Order.{first-wins, second-asked, passed-answer, refused-answer}
 use Rattle.twoway_checks.specs.declared.TwoWayData.{TwoWayData}
 use Rattle.twoway_checks.specs.Cells.{cellCounts}

@@ -1,8 +1,9 @@
 -- The gauge study: two-way's checks, then balance; and the components of variance from the mean squares.
 use Prim.Native.Nat.{ℕ, _*_}
+use mathlib.Core.Bool.{cond}
 use mathlib.Core.List.{List}
 use lib.Dec.{eqb}
-use lib.Ieee.{Float}
+use lib.Ieee.{Float, lt}
 use lib.ListN.{length, getD}
 use Rattle.base.specs.declared.Refusal.{Refusal}
 use Rattle.base.specs.Refusals.{refuse, none, unless, _orElse_, guarded}
@@ -22,18 +23,22 @@ balanceRefusal ns = unless (eqb (otherCount ns) (getD ns 0 0)) (refuse 10 (getD 
 unfoldable pub studyRefusal : List Float → List ℕ → List ℕ → ℕ → Refusal
 studyRefusal xs us vs lent = twoWayRefusal xs us vs lent orElse balanceRefusal (cellCounts (levels us) (levels vs) xs us vs)
 
--- the components of a table with r readings a cell: (MS_AB - MS_E)/r, (MS_A - MS_AB)/(b r), (MS_B - MS_AB)/(a r), MS_E
+-- a component: the difference of two mean squares over n readings; +0.0 where the difference is below zero
+unfoldable pub componentOf : Float → Float → ℕ → Float
+componentOf more less n = cond (lt (more ⊖ less) plusZero) plusZero ((more ⊖ less) ⊘ count n)
+
+-- the components of a table with r readings a cell: (MS_AB - MS_E)/r, (MS_A - MS_AB)/(b r), (MS_B - MS_AB)/(a r), none below zero; and MS_E
 module _ (t : TwoWayAnovaResult) (r : ℕ) where
   abbrev pub componentAb : Float
-  componentAb = (t .interaction .ms ⊖ t .residual .ms) ⊘ count r
+  componentAb = componentOf (t .interaction .ms) (t .residual .ms) r
 
   abbrev pub componentA : Float
-  componentA = (t .«factor_a» .ms ⊖ t .interaction .ms) ⊘ count (t .«levels_b» * r)
+  componentA = componentOf (t .«factor_a» .ms) (t .interaction .ms) (t .«levels_b» * r)
 
   abbrev pub componentB : Float
-  componentB = (t .«factor_b» .ms ⊖ t .interaction .ms) ⊘ count (t .«levels_a» * r)
+  componentB = componentOf (t .«factor_b» .ms) (t .interaction .ms) (t .«levels_a» * r)
 
-  -- the total adds A, B, interaction, residual in that order; r readings are those of one cell
+  -- the total adds the reported A, B, interaction, residual in that order; r readings are those of one cell
   unfoldable pub componentsOf : GaugeStudy
   componentsOf = record {
     refusal = none;

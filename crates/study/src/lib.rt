@@ -5,9 +5,9 @@ ghost use mathlib.Core.Path.{_≡_};
 ghost use Prim.Native.Nat.{_*_, _≤_};
 ghost use lib.ListN.{length};
 ghost use Rattle.base.specs.Limits.{mostLevels, mostReadings};
-ghost use Rattle.study.specs.Study.{balanceRefusal, studyRefusal, refusedStudy, componentsOf, gaugeStudy};
+ghost use Rattle.study.specs.Study.{balanceRefusal, studyRefusal, refusedStudy, componentOf, componentsOf, gaugeStudy};
 
-// The components of variance, each as it comes out; meters are the levels of A, benches those of B, readings those of one cell.
+// The components of variance, of which none is below zero; meters are the levels of A, benches those of B, readings those of one cell.
 pub struct GaugeStudy {
     pub refusal: Refusal,
     pub meters: usize,
@@ -50,6 +50,19 @@ fn balance_refusal(counts: &[usize]) -> Refusal
     Refusal::new(10, first as u64, other as u64)
 }
 
+// One component: what a mean square has more than another, over n readings; +0.0 where it has less. The test is of the difference: a quotient below zero may round to -0.0, which is not below zero.
+fn component(more: f64, less: f64, n: usize) -> f64
+    requires { ⌜ n ≤ mostLevels * mostReadings ⌝ }
+    ensures { λ x. ⌜ x ≡ componentOf more less n ⌝ }
+{
+    let difference = more - less;
+    let quotient = difference / (n as f64);
+    if difference < 0.0 {
+        return 0.0;
+    }
+    float::canon(quotient)
+}
+
 // The components, from the mean squares of a table with r readings in each cell.
 fn components(t: TwoWayAnovaResult, r: usize) -> GaugeStudy
     requires { ⌜ (t .«levels_a» ≤ mostLevels) × ((t .«levels_b» ≤ mostLevels) × (r ≤ mostReadings)) ⌝ }
@@ -61,9 +74,9 @@ fn components(t: TwoWayAnovaResult, r: usize) -> GaugeStudy
     let ms_b = t.factor_b.ms;
     let ms_ab = t.interaction.ms;
     let ms_e = t.residual.ms;
-    let component_ab = float::canon((ms_ab - ms_e) / (r as f64));
-    let component_a = float::canon((ms_a - ms_ab) / ((b * r) as f64));
-    let component_b = float::canon((ms_b - ms_ab) / ((a * r) as f64));
+    let component_ab = component(ms_ab, ms_e, r);
+    let component_a = component(ms_a, ms_ab, b * r);
+    let component_b = component(ms_b, ms_ab, a * r);
     GaugeStudy {
         refusal: Refusal::none(),
         meters: a,

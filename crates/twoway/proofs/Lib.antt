@@ -2,3 +2,4 @@ pub mod Counts
 pub mod Design
 pub mod Guards
 pub mod Cells
+pub mod MeanSquares

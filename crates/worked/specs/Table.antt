@@ -1,4 +1,4 @@
--- Document 01, "Worked numbers": one table of questions and answers, and one theorem that each answer is what the definitions give.
+-- Document 01, "Worked numbers", and the studies of request W-203: one table of questions and answers, and one theorem that each answer is what the definitions give.
 use Prim.Native.Nat.{ℕ}
 use mathlib.Core.Path.{_≡_, refl}
 use mathlib.Core.Bool.{Bool, true, false, cond}
@@ -26,7 +26,7 @@ use Rattle.twoway.specs.declared.TwoWayAnovaResult.{TwoWayAnovaResult}
 use Rattle.twoway.specs.Results.{answerOf, refusedResult}
 use Rattle.twoway.specs.Anova.{squaresOf, twoWayAnova}
 use Rattle.study.specs.declared.GaugeStudy.{GaugeStudy}
-use Rattle.study.specs.Study.{balanceRefusal, studyRefusal, componentsOf, gaugeStudy}
+use Rattle.study.specs.Study.{balanceRefusal, studyRefusal, componentOf, componentsOf, gaugeStudy}
 use Rattle.float.specs.Words.{plusZero}
 use Rattle.float.specs.Singles.{absOf, isFinite, leastOf, greatestOf, clampOf, powerFrom, powerOf}
 use Rattle.base.specs.Lists.{part}
@@ -162,6 +162,9 @@ n35 = 0x4041800000000000
 abbrev n11 : ℕ
 n11 = 0x4026000000000000
 
+abbrev n12 : ℕ
+n12 = 0x4028000000000000
+
 abbrev n13 : ℕ
 n13 = 0x402A000000000000
 
@@ -201,7 +204,13 @@ ends first second = 2 ∷ 2 ∷ replicate 14 0 ++ first ∷ second ∷ replicate
 abbrev welch : ℕ → ℕ → ℕ → ℕ → ℕ → List ℕ
 welch f b w first second = begins ++ f ∷ b ∷ w ∷ replicate 9 0 ++ ends first second
 
--- P6's readings, cell by cell
+-- two meters on two benches, two readings a cell: the codes, and P6's readings, cell by cell
+abbrev meters : List ℕ
+meters = 0 ∷ 0 ∷ 0 ∷ 0 ∷ 1 ∷ 1 ∷ 1 ∷ 1 ∷ []
+
+abbrev benches : List ℕ
+benches = 0 ∷ 0 ∷ 1 ∷ 1 ∷ 0 ∷ 0 ∷ 1 ∷ 1 ∷ []
+
 abbrev p6 : List ℕ
 p6 = n1 ∷ n3 ∷ n5 ∷ n7 ∷ n3 ∷ n5 ∷ n11 ∷ n13 ∷ []
 
@@ -220,8 +229,12 @@ lines =
     ∷ (OneWay Fisher (n2 ∷ n2 ∷ n2 ∷ n2 ∷ []) (2 ∷ 2 ∷ []), begins ++ notANumber ∷ n1 ∷ n2 ∷ 1 ∷ 0 ∷ 0 ∷ 0 ∷ 1 ∷ 0 ∷ 0 ∷ 1 ∷ n2 ∷ ends n2 n2)
     ∷ (OneWay Fisher (n1 ∷ n1 ∷ n3 ∷ n3 ∷ []) (2 ∷ 2 ∷ []), begins ++ infinite ∷ n1 ∷ n2 ∷ 1 ∷ n4 ∷ 0 ∷ n4 ∷ 1 ∷ n4 ∷ 0 ∷ 1 ∷ n2 ∷ ends n1 n3)
     -- P6 2x2, cells {1,3},{5,7},{3,5},{11,13}; and P7, its study
-    ∷ (TwoWay p6 (0 ∷ 0 ∷ 0 ∷ 0 ∷ 1 ∷ 1 ∷ 1 ∷ 1 ∷ []) (0 ∷ 0 ∷ 1 ∷ 1 ∷ 0 ∷ 0 ∷ 1 ∷ 1 ∷ []), 0 ∷ 0 ∷ 0 ∷ n32 ∷ n72 ∷ n8 ∷ n8 ∷ n120 ∷ n16 ∷ n36 ∷ n4 ∷ [])
-    ∷ (Study p6 (0 ∷ 0 ∷ 0 ∷ 0 ∷ 1 ∷ 1 ∷ 1 ∷ 1 ∷ []) (0 ∷ 0 ∷ 1 ∷ 1 ∷ 0 ∷ 0 ∷ 1 ∷ 1 ∷ []), 0 ∷ 0 ∷ 0 ∷ n6 ∷ n16 ∷ n3 ∷ n2 ∷ n27 ∷ [])
+    ∷ (TwoWay p6 meters benches, 0 ∷ 0 ∷ 0 ∷ n32 ∷ n72 ∷ n8 ∷ n8 ∷ n120 ∷ n16 ∷ n36 ∷ n4 ∷ [])
+    ∷ (Study p6 meters benches, 0 ∷ 0 ∷ 0 ∷ n6 ∷ n16 ∷ n3 ∷ n2 ∷ n27 ∷ [])
+    -- W-203 the study of {1,3},{5,7},{3,5},{7,9}: the interaction's difference is -2
+    ∷ (Study (n1 ∷ n3 ∷ n5 ∷ n7 ∷ n3 ∷ n5 ∷ n7 ∷ n9 ∷ []) meters benches, 0 ∷ 0 ∷ 0 ∷ n2 ∷ n8 ∷ 0 ∷ n2 ∷ n12 ∷ [])
+    -- and of {x,-x},{x,-x},{0,0},{0,0} with x = 2^-537: the interaction's difference is -2^-1074, the double next below zero, and half of it would be -0.0
+    ∷ (Study (0x1E60000000000000 ∷ 0x9E60000000000000 ∷ 0x1E60000000000000 ∷ 0x9E60000000000000 ∷ replicate 4 0) meters benches, 0 ∷ 0 ∷ 0 ∷ 0 ∷ 0 ∷ 0 ∷ 1 ∷ 1 ∷ [])
     -- P8 one reading a cell; and one reading more, which is accepted: its counts differ, so these are Type III
     ∷ (TwoWay (n1 ∷ n2 ∷ n3 ∷ n5 ∷ []) (0 ∷ 0 ∷ 1 ∷ 1 ∷ []) (0 ∷ 1 ∷ 0 ∷ 1 ∷ []), 2 ∷ 5 ∷ 4 ∷ replicate 8 0)
     ∷ (TwoWay (n1 ∷ n2 ∷ n3 ∷ n5 ∷ n7 ∷ []) (0 ∷ 0 ∷ 1 ∷ 1 ∷ 1 ∷ []) (0 ∷ 1 ∷ 0 ∷ 1 ∷ 1 ∷ []), 0 ∷ 0 ∷ 0 ∷ 0x4024924924924924 ∷ 0x4012492492492494 ∷ 0x3FF2492492492492 ∷ n2 ∷ 0x4037333333333332 ∷ 0x4014924924924924 ∷ 0x4002492492492494 ∷ 0x3FE2492492492492 ∷ [])
@@ -246,5 +259,5 @@ abbrev given : Line → List ℕ
 given l = l .1
 
 pub worked : map asked lines ≡ map given lines
-unfolding answer refusedResult allEffects beta inverse waldRow waldSum covInv waldSs rowOf normalAt normalSystem places table halfOf leftHalf effectCode codesFrom productsOf products designRow lentZeros zeroRight unitRow unit clearOther clearOthers scaled reduced fullColumn fullColumns matrixInverse cleared column forward backSum backValue backRow backward solveLinearSystem swapRows better pivotRow pivoted clearRow clearBelow repeatedMeasuresAnova repeatedAnswer repeatedRefusal designRefusal firstFault subjectFault noSubjects noConditions subjectMeans conditionSum conditionMeans ssTotal ssSubjects ssConditions part computeSphericityCorrections correctionsOf cscHere ggOf values ggRaw epsilonGg hfRaw usable epsilonHf trace meanTrace det wRaw mauchlyW dfW matrixDeterminant detOf twoByTwo absOf isFinite leastOf greatestOf clampOf powerFrom powerOf contrastCovariance fits throughContrasts orthonormalContrasts contrasts contrastRows contrastRow covMatrix covRows covRow noCovariances covariance covSum computeEigenvalues diagonal rounds round qrHere zeros qrColumns qrColumn remains normalize newColumn putColumn projections project lessColumn columnOf blankColumn matrixMultiplyCsc csc blank product productRow orthonormalize orthonormalRows orthonormalRow normalizeRow projectRows projectRow overRow lessRow refuses dot lent twoWayAnova squaresOf answerOf twoWayRefusal shapeRefusal levelsRefusal cellsRefusal largest cells cell numbers tallyLine listed noLevels noCells margins cellMeans ssError unlike otherCount meanLine meanMargins abRow ssAb balancedSs balanceRefusal studyRefusal componentsOf gaugeStudy loop turns oneWayAnova anova fisherAnova welchAnova noSizes noMeans oneWayRefusal sizesRefusal groupFault guarded total cut some sumBy sqrtOf ofBits toBits add sub mul div neg lt ofInt isNan
+unfolding answer refusedResult allEffects beta inverse waldRow waldSum covInv waldSs rowOf normalAt normalSystem places table halfOf leftHalf effectCode codesFrom productsOf products designRow lentZeros zeroRight unitRow unit clearOther clearOthers scaled reduced fullColumn fullColumns matrixInverse cleared column forward backSum backValue backRow backward solveLinearSystem swapRows better pivotRow pivoted clearRow clearBelow repeatedMeasuresAnova repeatedAnswer repeatedRefusal designRefusal firstFault subjectFault noSubjects noConditions subjectMeans conditionSum conditionMeans ssTotal ssSubjects ssConditions part computeSphericityCorrections correctionsOf cscHere ggOf values ggRaw epsilonGg hfRaw usable epsilonHf trace meanTrace det wRaw mauchlyW dfW matrixDeterminant detOf twoByTwo absOf isFinite leastOf greatestOf clampOf powerFrom powerOf contrastCovariance fits throughContrasts orthonormalContrasts contrasts contrastRows contrastRow covMatrix covRows covRow noCovariances covariance covSum computeEigenvalues diagonal rounds round qrHere zeros qrColumns qrColumn remains normalize newColumn putColumn projections project lessColumn columnOf blankColumn matrixMultiplyCsc csc blank product productRow orthonormalize orthonormalRows orthonormalRow normalizeRow projectRows projectRow overRow lessRow refuses dot lent twoWayAnova squaresOf answerOf twoWayRefusal shapeRefusal levelsRefusal cellsRefusal largest cells cell numbers tallyLine listed noLevels noCells margins cellMeans ssError unlike otherCount meanLine meanMargins abRow ssAb balancedSs balanceRefusal studyRefusal componentOf componentsOf gaugeStudy loop turns oneWayAnova anova fisherAnova welchAnova noSizes noMeans oneWayRefusal sizesRefusal groupFault guarded total cut some sumBy sqrtOf ofBits toBits add sub mul div neg lt ofInt isNan
 worked = refl
