@@ -1,20 +1,22 @@
 -- Doubles that differ do so by 2 ^ -1074 at least, the smallest double above zero, so that no difference of them is rounded to a zero. A difference of two whose sign is clear is therefore below zero, or its own sign is clear.
-use Prim.Native.Nat.{ℕ, zero, suc, _+_, _-_, _*_, _%_, _^_, _≤_, _<_}
+use Prim.Native.Nat.{ℕ, zero, suc, _+_, _-_, _*_, _^_, _≤_, _<_}
 use mathlib.Core.Path.{_≡_, refl, sym, ap, _∙_}
 use mathlib.Core.Logic.{_⊎_, inl, inr}
-use mathlib.Core.Bool.{Bool, true, false, cond, _&&_, true≢false}
+use mathlib.Core.Bool.{Bool, true, false, cond, true≢false}
 use native.Mathlib.Nat.{one-mul, mul-one, mul-assoc, mul-comm, suc-mul, mul-pos, mul-le-mul, mul-le-mul-right, lt-of-mul-lt-mul-right, le-trans}
 use native.Mathlib.Omega.{arith}
 use borrow.Author.Tests.{ltb-true, ltb-false, lt-ltb}
 use lib.IntN.{ℤ, pos, negsuc}
-use lib.Dec.{T, ltb, leb, eqb, eqb→eq, ltb→lt, leb→le}
+use lib.Dec.{T, ltb, eqb→eq, ltb→lt}
 use lib.Pow.{pow-add, pow-pos}
 use lib.Ieee.{Float, nan, inf, fin, binary64, up, down, odd, units, round, neg, sum, add, sub, lt, ofBits, fits}
-use lib.Ieee.Fits.{and-l, and-r, round-is, up-pos, down-pos}
+use lib.Ieee.Digits.{back}
+use lib.Ieee.Fits.{round-is, up-pos, down-pos}
 use lib.Ieee.Order.{round-mono}
 use lib.Ieee.Positive.{positive, above, above-of-le}
 use Rattle.float.specs.Words.{_⊖_, plusZero}
 use Rattle.float.proofs.Clear.{Clear, round-clear}
+use Rattle.float.proofs.Values.{small}
 
 -- ---- two doubles that differ
 -- doubles are fractions over powers of two, of which one divides the other
@@ -22,10 +24,7 @@ abbrev Divides : ℕ → ℕ → Type 0
 Divides g n = (k : ℕ) × (n ≡ k * g)
 
 powers : (i j : ℕ) → i ≤ j → Divides (2 ^ i) (2 ^ j)
-powers i j h = (2 ^ (j - i), ap (λ (x : ℕ). 2 ^ x) (join h) ∙ pow-add 2 (j - i) i)
-  where
-    join : i ≤ j → j ≡ j - i + i
-    join h = omega arith
+powers i j h = (2 ^ (j - i), ap (λ (x : ℕ). 2 ^ x) (sym (back j i h)) ∙ pow-add 2 (j - i) i)
 
 comparable : (e d : ℤ) → Divides (down e) (down d) ⊎ Divides (down d) (down e)
 comparable (pos i) d = inl (down d, sym (mul-one (down d)))
@@ -47,10 +46,7 @@ at-most-one u d p e = let n : 1 * d ≤ u * d = mul-le-mul-right d p in omega (a
 places : (s : Bool) (m : ℕ) (e : ℤ) → T (fits binary64 (fin s m e)) → down e ≤ 2 ^ 1074
 unfolding fits
 places s zero e f = le-trans (at-most-one (up e) (down e) (up-pos e) (eqb→eq (up e * down e) 1 f)) (pow-pos 1074)
-places s (suc m) e f =
-    let digits = eqb (suc m % 2) 1 && ltb (suc m) (2 ^ 53) in
-    let low = leb (down e) (2 ^ 1074) in
-    leb→le (down e) (2 ^ 1074) (and-r digits low (and-l (digits && low) (ltb (suc m * up e) (2 ^ 1024 * down e)) f))
+places s (suc m) e f = small s m e f .1
 
 -- p over E is smaller than q over D, and neither E nor D is above 2 ^ 1074: over E times D, the difference is one part in 2 ^ 1074 at least
 gap : (p q : ℕ) (e d : ℤ) → down e ≤ 2 ^ 1074 → down d ≤ 2 ^ 1074 → p * down d < q * down e → down e * down d ≤ (q * down e - p * down d) * 2 ^ 1074

@@ -9,6 +9,7 @@ use lib.Dec.{T, leb, ltb, eqb, leb→le, ltb→lt}
 use lib.Pow.{pow-add, pow-pos, pow-mono, pow-lt, shl-lt}
 use lib.Ieee.{Float, nan, inf, fin, binary64, up, down, size, round, mul, fits, toBits, ofBits}
 use lib.Ieee.Bits.{ofBits-toBits}
+use lib.Ieee.Digits.{back}
 use lib.Ieee.Fits.{and-l, and-r, down-pos, round-fits}
 use lib.Ieee.Exact.{HasValue, round-exact}
 use lib.Ieee.Nearest.{div-same}
@@ -47,7 +48,7 @@ same-value (fin t m e) (fin u n d) s a c p f g h k =
 
 -- What a double holds is not rounded: it is suc m * 2 ^ j smallest units, with a suc m of at most 53 digits.
 module _ (s : Bool) (m : ℕ) where
-  small : (e : ℤ) → T (fits binary64 (fin s (suc m) e)) → (suc m < 2 ^ 53) × (down e ≤ 2 ^ 1074) × (suc m * up e < 2 ^ 1024 * down e)
+  pub small : (e : ℤ) → T (fits binary64 (fin s (suc m) e)) → (suc m < 2 ^ 53) × (down e ≤ 2 ^ 1074) × (suc m * up e < 2 ^ 1024 * down e)
   unfolding fits
   small e f =
       let A = eqb (suc m % 2) 1 in
@@ -72,13 +73,10 @@ module _ (s : Bool) (m : ℕ) where
       let l : suc k ≤ 1074 = pow-le-back (suc k) 1074 (b .1) in
       round-exact binary64 s (suc m * 1) (2 ^ suc k) (suc m) (1074 - suc k) (pow-pos (suc k)) (b .0)
       (lt-of-lt-of-le (shl-lt 53 (1074 - suc k) (b .0)) (pow-mono {i = 53 + (1074 - suc k)} {j = 2098} (omega arith)))
-      (ap (λ (x : ℕ). x * 2 ^ 1074) (mul-one (suc m)) ∙ ap (λ (x : ℕ). suc m * 2 ^ x) (join l) ∙ ap (λ (x : ℕ). suc m * x) (pow-add 2 (1074 - suc k) (suc k)) ∙ sym (mul-assoc (suc m) (2 ^ (1074 - suc k)) (2 ^ suc k)))
+      (ap (λ (x : ℕ). x * 2 ^ 1074) (mul-one (suc m)) ∙ ap (λ (x : ℕ). suc m * 2 ^ x) (sym (back 1074 (suc k) l)) ∙ ap (λ (x : ℕ). suc m * x) (pow-add 2 (1074 - suc k) (suc k)) ∙ sym (mul-assoc (suc m) (2 ^ (1074 - suc k)) (2 ^ suc k)))
     where
       pow-le-back : (i p : ℕ) → 2 ^ i ≤ 2 ^ p → i ≤ p
       pow-le-back i p h = le-of-suc-le-suc (lt-of-not-le (λ (g : p < i). not-le-of-lt (pow-lt g) h))
-
-      join : suc k ≤ 1074 → 1074 ≡ 1074 - suc k + suc k
-      join g = omega arith
 
 not-rounded : (s : Bool) (m : ℕ) (e : ℤ) → T (fits binary64 (fin s m e)) → round binary64 s (m * up e) (down e) ≡ fin s m e
 not-rounded s m e f = same-value (round binary64 s (m * up e) (down e)) (fin s m e) s (m * up e) (down e) (down-pos e) (round-fits binary64 s (m * up e) (down e)) f (exactly m f) (refl, refl)
