@@ -1,4 +1,4 @@
-/* matrices SEED COUNT: linear systems, inverses, determinants, eigenvalues, QR and orthonormal rows (kinds 11 to 16), as a stream. Sizes up to the limits and beyond them; whole
+/* matrices SEED COUNT: linear systems, inverses, determinants, eigenvalues, QR and orthonormal rows (kinds 11 to 16, and 23 and 24 for every other system and inverse), as a stream. Sizes up to the limits and beyond them; whole
    numbers, scales from 2^-1030 to 2^969, triangles whose diagonals are about 1e-14 and 1e-15; rows that are equal, opposite, zero, or nearly another row; infinities, subnormals, zeros
    of both signs, NaNs of any pattern; options and numbers of readings that do not fit. */
 #include <math.h>
@@ -127,7 +127,8 @@ int main(int argc, char **argv) {
             if (nr > MOST) nr = MOST;
             for (uint32_t i = 0; i < nr; i++) readings[i] = bits(number(0));
         }
-        put32(kind), put32(option), put32(0), put32(0), put32(0), put32(nr);
+        /* every other system and inverse is asked with its count of skipped columns */
+        put32(kind < 13 && todo % 2 ? kind + 12 : kind), put32(option), put32(0), put32(0), put32(0), put32(nr);
         for (uint32_t i = 0; i < nr; i++) put64(readings[i]);
     }
     return 0;

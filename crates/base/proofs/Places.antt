@@ -23,6 +23,14 @@ other-column a b w x y h k e = go (ltb a b) refl
         let r = mul-le-mul-right w (ltb-false a b q) in
         omega (arith, r)
 
+pub another-row : (a b w x y : ℕ) → (a ≡ b → ⊥) → x < w → y < w → a * w + x ≡ b * w + y → ⊥
+another-row a b w x y h j k e = go (ltb a b) (ltb b a) refl refl
+  where
+    go : (s t : Bool) → ltb a b ≡ s → ltb b a ≡ t → ⊥
+    go true t p q = other-row a b w x y (ltb-true a b p) j e
+    go false true p q = other-row b a w y x (ltb-true b a q) k (sym e)
+    go false false p q = h (omega (arith, ltb-false a b p, ltb-false b a q))
+
 pub another-column : (a b w x y : ℕ) → (x ≡ y → ⊥) → x < w → y < w → a * w + x ≡ b * w + y → ⊥
 another-column a b w x y h j k e = go (ltb x y) (ltb y x) refl refl
   where

@@ -1,14 +1,14 @@
 -- The pivot's row is the first of the largest ones: no row from the diagonal's on is strictly larger in the column, and none before it is as large.
--- A NaN is not larger, nothing is larger than a NaN, and it equals nothing.
+-- A NaN is not larger, nothing is larger than a NaN, and it equals nothing: a NaN on the diagonal stays the pivot, and none comes up from below. So the row is pinned.
 use Prim.Native.Nat.{ℕ, _+_, _*_, _<_, _≤_}
-use mathlib.Core.Path.{_≡_, refl}
-use mathlib.Core.Bool.{Bool, true, false, cond}
+use mathlib.Core.Path.{_≡_, refl, sym, _∙_}
+use mathlib.Core.Bool.{Bool, true, false, cond, true≢false}
 use mathlib.Core.List.{List}
 use native.Mathlib.Omega.{arith}
 use native.Mathlib.Nat.{le-of-lt}
 use borrow.Author.Tests.{ltb-true, ltb-false, le-ltb, ne-eqb}
 use lib.Dec.{ltb}
-use lib.Ieee.{Float, nan, inf, fin, lt, eq, up, down}
+use lib.Ieee.{Float, nan, inf, fin, lt, eq, isNan, up, down}
 use lib.Ieee.Fits.{down-pos}
 use lib.Ieee.Positive.{through}
 use Rattle.float.specs.Singles.{absOf}
@@ -57,6 +57,21 @@ unfolding lt absOf
 itself nan = refl
 itself (inf s) = refl
 itself (fin s m e) = le-ltb (m * up e * down e) (m * up e * down e) (omega arith)
+
+-- a NaN is not beaten, and beats nothing
+nan-not-beaten : (x y : Float) → isNan x ≡ true → lt (absOf x) (absOf y) ≡ false
+unfolding isNan lt absOf
+nan-not-beaten nan y h = refl
+nan-not-beaten (inf s) y h = cc
+nan-not-beaten (fin s k e) y h = cc
+
+nan-beats-none : (x y : Float) → isNan y ≡ true → lt (absOf x) (absOf y) ≡ false
+unfolding isNan lt absOf
+nan-beats-none nan nan h = refl
+nan-beats-none (inf s) nan h = refl
+nan-beats-none (fin s k e) nan h = refl
+nan-beats-none x (inf s) h = cc
+nan-beats-none x (fin s k e) h = cc
 
 module _ (m : List Float) (w col : ℕ) where
   -- is row j larger than row `best` in the column?
@@ -114,3 +129,28 @@ module _ (m : List Float) (w col : ℕ) where
 
   pub first-of-equal : (n : ℕ) → col < n → (j : ℕ) → col ≤ j → j < pivotRow n w col m → eq (absOf (at m (j * w + col))) (absOf (at m (pivotRow n w col m * w + col))) ≡ false
   first-of-equal n h = found n h .1
+
+  -- a NaN on the diagonal stays the pivot
+  pub nan-stays : (n : ℕ) → col < n → isNan (at m (col * w + col)) ≡ true → pivotRow n w col m ≡ col
+  unfolding pivotRow better
+  nan-stays n h e =
+      walks (better m w col) (λ r best. best ≡ col) n
+      (λ r best l q. rw (q, nan-not-beaten (at m (col * w + col)) (at m (r * w + col)) e))
+      (col + 1) col (omega arith) refl
+
+  -- a row that takes over does not hold a NaN
+  taken-over : (r best : ℕ) → (isNan (at m (best * w + col)) ≡ true → best ≡ col) → isNan (at m (better m w col r best * w + col)) ≡ true → better m w col r best ≡ col
+  unfolding better
+  taken-over r best p = go (beats r best) refl
+    where
+      go : (b : Bool) → beats r best ≡ b → isNan (at m (cond b r best * w + col)) ≡ true → cond b r best ≡ col
+      go true e h = absurd (true≢false (sym e ∙ nan-beats-none (at m (best * w + col)) (at m (r * w + col)) h))
+      go false e h = p h
+
+  -- and none comes up from below: a pivot that is a NaN was on the diagonal
+  pub nan-never-comes : (n : ℕ) → col < n → isNan (at m (pivotRow n w col m * w + col)) ≡ true → pivotRow n w col m ≡ col
+  unfolding pivotRow
+  nan-never-comes n h =
+      walks (better m w col) (λ r best. isNan (at m (best * w + col)) ≡ true → best ≡ col) n
+      (λ r best l p. taken-over r best p)
+      (col + 1) col (omega arith) (λ e. refl)

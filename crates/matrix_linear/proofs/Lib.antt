@@ -4,5 +4,7 @@ pub mod Columns
 pub mod Calls
 pub mod Lengths
 pub mod Skipped
+pub mod Counting
 pub mod Untouched
 pub mod Zeros
+pub mod Finished

@@ -1,24 +1,22 @@
 -- Back substitution puts +0.0 where the divisor is too small, and the call hands that +0.0 out.
 use Prim.Native.Nat.{ℕ, _+_, _-_, _*_, _<_, _≤_}
 use mathlib.Core.Path.{_≡_, refl, sym, _∙_}
-use mathlib.Core.Bool.{Bool, true, false, _&&_}
+use mathlib.Core.Bool.{Bool, true, false}
 use mathlib.Core.List.{List}
 use native.Mathlib.Omega.{arith}
-use borrow.Author.Tests.{ltb-true, ltb-false, leb-true}
-use lib.Dec.{ltb, leb}
+use borrow.Author.Tests.{ltb-true, ltb-false}
+use lib.Dec.{ltb}
 use lib.ListN.{length, set, length-set}
 use lib.Seq.{getD-set-same, getD-set-other}
 use lib.Ieee.{Float, nan, lt}
 use Rattle.base.proofs.Bounds.{row-end}
-use Rattle.base.proofs.Faults.{both}
 use Rattle.float.specs.Words.{plusZero, tiny}
 use Rattle.float.specs.Singles.{absOf}
-use Rattle.matrix_linear.specs.Rows.{mostRows, at, room, skips}
-use Rattle.matrix_linear.specs.System.{forward, backValue, backRow, backward, solveLinearSystem}
-use Rattle.matrix_linear.specs.Skips.{skippedColumn}
+use Rattle.matrix_linear.specs.Rows.{at, room, skips}
+use Rattle.matrix_linear.specs.System.{forward, skippedColumn, backValue, backRow, backward, solveLinearSystem}
 use Rattle.base.proofs.Walks.{walks}
 use Rattle.base.proofs.Places.{other-row, other-column}
-use Rattle.matrix_linear.proofs.Lengths.{forward-length}
+use Rattle.matrix_linear.proofs.Lengths.{room-length, forward-length}
 use Rattle.matrix_linear.proofs.Untouched.{skipped-at-end}
 
 -- n rows, of which row i has the divisor d, too small
@@ -67,7 +65,7 @@ module _ (n i : ℕ) (m : List Float) (h : i < n) (taken : room n (n + 1) m ≡ 
   pub skipped-zero : skips (forward n (n + 1) m) (i * (n + 1) + i) ≡ true → at (solveLinearSystem n m .0) (i * (n + 1) + n) ≡ plusZero
   unfolding solveLinearSystem
   skipped-zero e =
-      let l = leb-true (n * (n + 1)) (length m) (both (leb n mostRows) (leb (n * (n + 1)) (length m)) taken .1) in
+      let l = room-length n (n + 1) m taken in
       rw taken (zero-stays n i h (at (forward n (n + 1) m) (i * (n + 1) + i)) e (forward n (n + 1) m) (rw (forward-length n (n + 1) m) l) refl)
 
   -- a column that was skipped: the solution has +0.0 there

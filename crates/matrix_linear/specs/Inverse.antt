@@ -1,6 +1,6 @@
 -- `matrix_inverse`: n rows of 2 n places, the matrix on the left, the unit matrix and then the inverse on the right.
 use Prim.Native.Nat.{ℕ, _+_, _*_}
-use mathlib.Core.Bool.{Bool, true, false, cond}
+use mathlib.Core.Bool.{Bool, cond}
 use mathlib.Core.List.{List}
 use lib.Dec.{eqb}
 use lib.ListN.{set}
@@ -9,6 +9,8 @@ use Rattle.base.specs.Loop.{loop}
 use Rattle.float.specs.Words.{plusZero, one}
 use Rattle.matrix_places.specs.Places.{at, lessRow, overRow}
 use Rattle.matrix_linear.specs.Rows.{room, pivoted, skips}
+use Rattle.matrix_linear.specs.Skips.{skippedIn, skippedOf, takenWith, notTaken}
+use Rattle.matrix_linear.specs.declared.Elimination.{Elimination}
 
 -- place j behind p becomes +0.0
 abbrev pub zeroAt : ℕ → ℕ → List Float → List Float
@@ -50,6 +52,14 @@ fullColumn n w col m = reduced n w col (pivoted n w col m)
 unfoldable pub fullColumns : ℕ → ℕ → List Float → List Float
 fullColumns n w m = loop 0 n (fullColumn n w) m
 
--- the memory after the call, and whether the rows were taken
-unfoldable pub matrixInverse : ℕ → List Float → List Float × Bool
-matrixInverse n m = cond (room n (2 * n) m) (fullColumns n (2 * n) (unit n m), true) (m, false)
+-- is column col skipped in the inversion of n rows?
+abbrev pub skippedInverse : ℕ → ℕ → List Float → Bool
+skippedInverse n col m = skippedIn (fullColumn n (2 * n)) n (2 * n) col (unit n m)
+
+-- how many columns are
+abbrev pub skippedInverseCount : ℕ → List Float → ℕ
+skippedInverseCount n m = skippedOf (fullColumn n (2 * n)) n (2 * n) (unit n m)
+
+-- the memory after the call, whether the rows were taken, and how many columns were skipped
+unfoldable pub matrixInverse : ℕ → List Float → List Float × Elimination
+matrixInverse n m = cond (room n (2 * n) m) (fullColumns n (2 * n) (unit n m), takenWith (skippedInverseCount n m)) (m, notTaken)

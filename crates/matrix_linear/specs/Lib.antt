@@ -1,5 +1,6 @@
 pub mod Rows
+pub mod Skips
 pub mod System
 pub mod Inverse
 pub mod Determinant
-pub mod Skips
+pub mod Inner

@@ -2,7 +2,8 @@
 ghost use mathlib.Core.Path.{_≡_};
 ghost use Prim.Native.Nat.{_+_, _*_, _≤_, _<_};
 ghost use lib.ListN.{length};
-ghost use Rattle.matrix_linear.specs.Inverse.{zeroRight, unitRow, unit, clearOther, clearOthers, fullColumn, fullColumns};
+ghost use Rattle.matrix_linear.specs.Inner.{counted, allCounted};
+ghost use Rattle.matrix_linear.specs.Inverse.{zeroRight, unitRow, unit, clearOther, clearOthers, fullColumn};
 use super::pivots::pivot;
 use super::place::skips;
 
@@ -62,27 +63,31 @@ pub fn clear_others(m: &mut [f64], n: usize, w: usize, col: usize)
     }
 }
 
-// One column: rows swap, and unless the pivot is too small its row is divided by it and taken from all others.
-pub fn full_column(m: &mut [f64], n: usize, w: usize, col: usize)
-    requires { ⌜ (col < n) × ((n ≤ w) × (n * w ≤ length (now m))) ⌝ }
-    ensures { λ _. ⌜ now (m .exit) ≡ fullColumn n w col (now (m .entry)) ⌝ }
+// One column: rows swap, and unless the pivot is too small its row is divided by it and taken from all others. `skipped` columns were
+// skipped before it; the result counts this one too.
+pub fn full_column(m: &mut [f64], n: usize, w: usize, col: usize, skipped: usize) -> usize
+    requires { ⌜ (col < n) × ((n ≤ w) × (n * w ≤ length (now m))) × (skipped ≤ col) ⌝ }
+    ensures { λ r. ⌜ ((now (m .exit), r) ≡ counted (fullColumn n w) n w col (now (m .entry), skipped)) × (r ≤ skipped + 1) ⌝ }
 {
     pivot(m, n, w, col);
     let p = col * w + col;
     if skips(m, p) {
-        return;
+        return skipped + 1;
     }
     let d = m[p];
     matrix_places::over_row(m, col * w, d, w);
     clear_others(m, n, w, col);
+    skipped
 }
 
-// All columns.
-pub fn full_columns(m: &mut [f64], n: usize, w: usize)
+// All columns: how many were skipped.
+pub fn full_columns(m: &mut [f64], n: usize, w: usize) -> usize
     requires { ⌜ (n ≤ w) × (n * w ≤ length (now m)) ⌝ }
-    ensures { λ _. ⌜ now (m .exit) ≡ fullColumns n w (now (m .entry)) ⌝ }
+    ensures { λ r. ⌜ (now (m .exit), r) ≡ allCounted (fullColumn n w) n w (now (m .entry)) ⌝ }
 {
+    let mut skipped = 0;
     for col in 0..n {
-        full_column(m, n, w, col);
+        skipped = full_column(m, n, w, col, skipped);
     }
+    skipped
 }

@@ -2,31 +2,36 @@
 ghost use mathlib.Core.Path.{_≡_};
 ghost use Prim.Native.Nat.{_+_, _*_, _≤_, _<_};
 ghost use lib.ListN.{length};
-ghost use Rattle.matrix_linear.specs.System.{column, forward, backSum, backValue, backRow, backward};
+ghost use Rattle.matrix_linear.specs.Inner.{counted, allCounted};
+ghost use Rattle.matrix_linear.specs.System.{column, backSum, backValue, backRow, backward};
 use super::pivots::clear_below;
 use super::pivots::pivot;
 use super::place::skips;
 
-// One column of the elimination: rows swap, and the column is cleared below row col unless the pivot is too small.
-pub fn column(m: &mut [f64], n: usize, w: usize, col: usize)
-    requires { ⌜ (col < n) × ((n ≤ w) × (n * w ≤ length (now m))) ⌝ }
-    ensures { λ _. ⌜ now (m .exit) ≡ column n w col (now (m .entry)) ⌝ }
+// One column of the elimination: rows swap, and the column is cleared below row col unless the pivot is too small. `skipped` columns were
+// skipped before it; the result counts this one too.
+pub fn column(m: &mut [f64], n: usize, w: usize, col: usize, skipped: usize) -> usize
+    requires { ⌜ (col < n) × ((n ≤ w) × (n * w ≤ length (now m))) × (skipped ≤ col) ⌝ }
+    ensures { λ r. ⌜ ((now (m .exit), r) ≡ counted (column n w) n w col (now (m .entry), skipped)) × (r ≤ skipped + 1) ⌝ }
 {
     pivot(m, n, w, col);
     if skips(m, col * w + col) {
-        return;
+        return skipped + 1;
     }
     clear_below(m, n, w, col);
+    skipped
 }
 
-// Elimination, column by column.
-pub fn forward(m: &mut [f64], n: usize, w: usize)
+// Elimination, column by column: how many were skipped.
+pub fn forward(m: &mut [f64], n: usize, w: usize) -> usize
     requires { ⌜ (n ≤ w) × (n * w ≤ length (now m)) ⌝ }
-    ensures { λ _. ⌜ now (m .exit) ≡ forward n w (now (m .entry)) ⌝ }
+    ensures { λ r. ⌜ (now (m .exit), r) ≡ allCounted (column n w) n w (now (m .entry)) ⌝ }
 {
+    let mut skipped = 0;
     for col in 0..n {
-        column(m, n, w, col);
+        skipped = column(m, n, w, col, skipped);
     }
+    skipped
 }
 
 // The right side of row i less the row's products with the values that are known.

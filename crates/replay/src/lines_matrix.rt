@@ -1,4 +1,4 @@
-// Printed lines of matrices, kinds 11 to 16. Where the option is out of range or the number of readings does not fit it, the line is `bad case`.
+// Printed lines of matrices, kinds 11 to 16, and 23 and 24, which are 11 and 12 with the columns that were skipped. Where the option is out of range or the number of readings does not fit it, the line is `bad case`.
 use crate::lines;
 use crate::lines::Out;
 use crate::matrix_blocks::Block;
@@ -6,9 +6,10 @@ use crate::matrix_blocks::lay;
 use crate::matrix_blocks::lay_row;
 use crate::matrix_blocks::put;
 use crate::matrix_blocks::side;
+use matrix_linear::Elimination;
 ghost use Prim.Native.Nat.{_≤_};
 
-pub fn solve(out: &mut Out, at: usize, option: u32, readings: &[f64]) -> usize {
+pub fn solve(out: &mut Out, at: usize, kind: u32, option: u32, readings: &[f64]) -> usize {
     let n = side(option, 23, 1, readings.len());
     if n == 0 {
         return lines::bad_case(out, at);
@@ -28,11 +29,12 @@ pub fn solve(out: &mut Out, at: usize, option: u32, readings: &[f64]) -> usize {
     let mut m = [0.0; 1152];
     lay(&mut m, matrix, readings, 0);
     lay(&mut m, right, readings, n * n);
-    matrix_linear::solve_linear_system(&mut m, n);
-    put(out, at, b"solve", &m, right)
+    let e = matrix_linear::solve_linear_system(&mut m, n);
+    let next = put(out, at, b"solve", &m, right);
+    skipped(out, next, kind, e)
 }
 
-pub fn inverse(out: &mut Out, at: usize, option: u32, readings: &[f64]) -> usize {
+pub fn inverse(out: &mut Out, at: usize, kind: u32, option: u32, readings: &[f64]) -> usize {
     let n = side(option, 24, 0, readings.len());
     if n == 0 {
         return lines::bad_case(out, at);
@@ -51,8 +53,17 @@ pub fn inverse(out: &mut Out, at: usize, option: u32, readings: &[f64]) -> usize
     };
     let mut m = [0.0; 1152];
     lay(&mut m, left, readings, 0);
-    matrix_linear::matrix_inverse(&mut m, n);
-    put(out, at, b"inverse", &m, right)
+    let e = matrix_linear::matrix_inverse(&mut m, n);
+    let next = put(out, at, b"inverse", &m, right);
+    skipped(out, next, kind, e)
+}
+
+// How many columns were skipped, in kinds 23 and 24.
+fn skipped(out: &mut Out, at: usize, kind: u32, e: Elimination) -> usize {
+    if kind < 23 {
+        return at;
+    }
+    lines::numbers(out, at, b"skippedA\n", [e.skipped as u64; 3], [0.0; 10])
 }
 
 pub fn determinant(out: &mut Out, at: usize, option: u32, readings: &[f64]) -> usize {

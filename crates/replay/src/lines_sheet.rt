@@ -1,4 +1,4 @@
-// Printed lines of kind 10: a sheet that is loaded and edited, its rows and its places, and both reports.
+// Printed lines of sheets that are edited, their rows and places, and both reports: in kind 10 the sheet is loaded, in kind 21 it is written down field by field.
 use crate::lines;
 use crate::lines::Out;
 use crate::lines_oneway;
@@ -83,21 +83,98 @@ fn takes(op: u32) -> usize
     0
 }
 
-// The sheet at the end: its rows, the places in use, and both reports.
+// The sheet at the end: the rows of its groups, the places in use, and both reports.
 fn whole(out: &mut Out, at: usize, s: Sheet) -> usize {
     let fisher = s.report(AnovaKind::Fisher);
+    lines_of(out, at, s, s.groups, fisher.n_total as usize)
+}
+
+// So many rows, so many places, and both reports.
+fn lines_of(out: &mut Out, at: usize, s: Sheet, groups: usize, readings: usize) -> usize {
     let list = s.rows;
-    let readings = s.places;
-    let above = rows(out, at, list, s.groups);
-    let before_reports = lines::firsts(
-        out,
-        above,
-        b"places@\n",
-        fisher.n_total as usize,
-        &readings,
-    );
-    let next = lines_oneway::fisher(out, before_reports, fisher);
+    let places = s.places;
+    let above = rows(out, at, list, groups);
+    let before_reports = lines::firsts(out, above, b"places@\n", readings, &places);
+    let next = lines_oneway::fisher(out, before_reports, s.report(AnovaKind::Fisher));
     lines_oneway::welch(out, next, s.report(AnovaKind::Welch))
+}
+
+// Kind 21: a sheet that is not from load. The option is the number of its groups. The sizes are those of the first rows. The first readings are
+// the 16 means, then the 16 sums of squared deviations; then come as many places as the one code of B says, and behind them the edits' new readings.
+pub fn written(
+    out: &mut Out,
+    at: usize,
+    option: u32,
+    sizes: &[u32],
+    edits: &[u32],
+    held: &[u32],
+    readings: &[f64],
+) -> usize {
+    if Sheet::ROWS < sizes.len() {
+        return lines::bad_case(out, at);
+    }
+    if held.len() != 1 {
+        return lines::bad_case(out, at);
+    }
+    let n = lists::size(held, 0) as usize;
+    if Sheet::PLACES < n {
+        return lines::bad_case(out, at);
+    }
+    if readings.len() < ABOVE + n {
+        return lines::bad_case(out, at);
+    }
+    let s = Sheet {
+        places: places_of(&readings[ABOVE..ABOVE + n]),
+        rows: rows_of(sizes, readings),
+        groups: option as usize,
+    };
+    let next = lines::numbers(out, at, b"sheetA\n", [option as u64; 3], [0.0; 10]);
+    let e = edited(out, next, s, edits, &readings[ABOVE + n..]);
+    let left = e.sheet;
+    let places = left.places;
+    lines_of(out, e.at, left, Sheet::ROWS, used(places))
+}
+
+// The means and the sums stand before the places.
+const ABOVE: usize = 2 * Sheet::ROWS;
+
+// These readings, and zeros behind them.
+fn places_of(readings: &[f64]) -> [f64; Sheet::PLACES] {
+    let mut places = [0.0; Sheet::PLACES];
+    let mut i = 0;
+    while i < Sheet::PLACES {
+        places[i] = lists::reading(readings, i);
+        i += 1;
+    }
+    places
+}
+
+// A row for each of the 16 means and sums, with its size where there is one.
+fn rows_of(sizes: &[u32], readings: &[f64]) -> [Row; Sheet::ROWS] {
+    let mut rows = [Sheet::empty_row(); Sheet::ROWS];
+    let mut g = 0;
+    while g < Sheet::ROWS {
+        rows[g] = Row {
+            size: lists::size(sizes, g),
+            mean: lists::reading(readings, g),
+            sq_dev: lists::reading(readings, Sheet::ROWS + g),
+        };
+        g += 1;
+    }
+    rows
+}
+
+// The places up to the last whose bits are not those of +0.0.
+fn used(places: [f64; Sheet::PLACES]) -> usize {
+    let mut last = 0;
+    let mut i = 0;
+    while i < Sheet::PLACES {
+        if float::bits_of(places[i]) != 0 {
+            last = i + 1;
+        }
+        i += 1;
+    }
+    last
 }
 
 // A line for each of the n rows.

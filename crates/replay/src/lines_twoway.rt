@@ -1,6 +1,7 @@
-// Printed lines of two-way designs: kind 5 is the analysis, kind 7 the gauge study.
+// Printed lines of two-way designs: kind 5 is the analysis, 25 the analysis with the columns that were skipped, 7 the gauge study.
 use crate::lines;
 use crate::lines::Out;
+use results::Skips;
 use study::GaugeStudy;
 use twoway::TwoWayAnovaResult;
 ghost use Prim.Native.Nat.{_≤_};
@@ -35,19 +36,46 @@ fn answer_in(
     b: &[u32],
     readings: &[f64],
 ) -> usize {
-    if kind == 5 {
-        return two_way_lines(out, at, twoway::two_way_anova(readings, a, b, scratch));
+    if kind == 7 {
+        return study_lines(out, at, study::gauge_study(readings, a, b, scratch));
     }
-    study_lines(out, at, study::gauge_study(readings, a, b, scratch))
+    two_way_lines(
+        out,
+        at,
+        kind,
+        twoway::two_way_anova(readings, a, b, scratch),
+    )
 }
 
-fn two_way_lines(out: &mut Out, at: usize, r: TwoWayAnovaResult) -> usize {
+fn two_way_lines(out: &mut Out, at: usize, kind: u32, r: TwoWayAnovaResult) -> usize {
     let refusal = r.refusal;
     if refusal.number != 0 {
         return lines::refused(out, at, refusal);
     }
-    let next = table_lines(out, at, r);
-    mean_lines(out, next, r)
+    let after_table = table_lines(out, at, r);
+    let next = mean_lines(out, after_table, r);
+    if kind == 5 {
+        return next;
+    }
+    skips_line(out, next, r.skips)
+}
+
+// What the solver skipped, the inverse of X'X, and those of the blocks of A, B and the interaction.
+fn skips_line(out: &mut Out, at: usize, s: Skips) -> usize {
+    let next = lines::numbers(
+        out,
+        at,
+        b"skippedABC",
+        [s.solver as u64, s.inverse as u64, s.block_a as u64],
+        [0.0; 10],
+    );
+    lines::numbers(
+        out,
+        next,
+        b"AB\n",
+        [s.block_b as u64, s.block_ab as u64, 0],
+        [0.0; 10],
+    )
 }
 
 fn table_lines(out: &mut Out, at: usize, r: TwoWayAnovaResult) -> usize {

@@ -4,7 +4,7 @@ use base::Refusal;
 ghost use mathlib.Core.Path.{_≡_};
 ghost use Rattle.results.specs.Results.{refusedResult};
 ghost use Rattle.results.specs.Rows.{effectRow, plainRow, noRow};
-ghost use Rattle.results.specs.Effects.{noEffects};
+ghost use Rattle.results.specs.Effects.{noSkips, noEffects};
 ghost use Rattle.results.specs.Corrections.{noCorrected, noCorrections};
 
 // The answer of a one-way analysis. What Welch's has not is zero beside a mark that says so.
@@ -102,11 +102,35 @@ pub fn no_row() -> AnovaTableRow
     }
 }
 
-// The sums of squares of factor A, of factor B and of their interaction.
+// How many columns were skipped by the solver of the normal equations, by the inverse of X'X, and by the inverses of the blocks of A, B
+// and the interaction.
+pub struct Skips {
+    pub solver: usize,
+    pub inverse: usize,
+    pub block_a: usize,
+    pub block_b: usize,
+    pub block_ab: usize,
+}
+
+// Nothing was skipped.
+pub fn no_skips() -> Skips
+    ensures { λ r. ⌜ r ≡ noSkips ⌝ }
+{
+    Skips {
+        solver: 0,
+        inverse: 0,
+        block_a: 0,
+        block_b: 0,
+        block_ab: 0,
+    }
+}
+
+// The sums of squares of factor A, of factor B and of their interaction, and what was skipped on the way to them.
 pub struct Effects {
     pub ss_a: f64,
     pub ss_b: f64,
     pub ss_ab: f64,
+    pub skips: Skips,
 }
 
 // Nothing but zeros: the effects of a design that does not fit.
@@ -117,6 +141,7 @@ pub fn no_effects() -> Effects
         ss_a: 0.0,
         ss_b: 0.0,
         ss_ab: 0.0,
+        skips: no_skips(),
     }
 }
 

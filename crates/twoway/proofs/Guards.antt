@@ -1,4 +1,5 @@
 -- An accepted design passes every guard inside the definitions that its sums of squares are made of: none of them is the zero, and no matrix the one, that stands for what does not fit.
+-- So its counts of skipped columns are those told from the matrices.
 use Prim.Native.Nat.{ℕ, _+_, _-_, _*_, _<_, _≤_}
 use mathlib.Core.Path.{_≡_, refl, sym, ap, _∙_}
 use mathlib.Core.List.{List}
@@ -11,8 +12,9 @@ use Rattle.base.specs.Lists.{over}
 use Rattle.base.proofs.Loops.{listed-length}
 use Rattle.base.proofs.Order.{passed-answer}
 use Rattle.float.specs.Words.{plusZero}
-use Rattle.matrix_linear.specs.System.{forward, backward}
-use Rattle.matrix_linear.specs.Inverse.{unit, fullColumns}
+use Rattle.matrix_linear.specs.System.{forward, skippedCount, backward}
+use Rattle.matrix_linear.specs.Inverse.{unit, fullColumns, skippedInverseCount}
+use Rattle.results.specs.declared.Skips.{Skips}
 use Rattle.twoway_balanced.specs.Squares.{balancedSs, effectsOf}
 use Rattle.twoway_cells.specs.Organized.{cellOrder, leftAlone, organizeTwoWayData}
 use Rattle.twoway_cells.proofs.Designs.{Held, held}
@@ -20,11 +22,10 @@ use Rattle.twoway_checks.specs.Cells.{cells, cellCounts}
 use Rattle.twoway_checks.specs.Checks.{levels, twoWayRefusal}
 use Rattle.twoway_checks.specs.Data.{twoWayData}
 use Rattle.twoway_means.specs.Table.{cellMean, cellMeans, noCells}
-use Rattle.twoway_type3.specs.Answer.{beta, inverse}
-use Rattle.twoway_type3.specs.Matrices.{leftHalf}
+use Rattle.twoway_type3.specs.Answer.{crossProducts, beta, inverse, solvedSkips, allEffects}
 use Rattle.twoway_type3.specs.Normal.{normalSystem}
-use Rattle.twoway_type3.specs.Wald.{covInv}
-use Rattle.twoway_type3.proofs.Guards.{beta-there, inverse-there, block-there}
+use Rattle.twoway_type3.specs.Wald.{blockOf, covInv, covSkips}
+use Rattle.twoway_type3.proofs.Guards.{beta-there, inverse-there, skips-there, block-there, block-skips-there}
 use Rattle.twoway_type3.proofs.Sizes.{columns}
 use Rattle.twoway.proofs.Counts.{some}
 
@@ -35,18 +36,44 @@ module _ (xs : List Float) (us vs : List ℕ) (a b : ℕ) where
   abbrev pub first : ℕ
   first = getD (cellCounts a b xs us vs) 0 0
 
-  -- the block of the effect with the n columns from s on is inverted
+  -- the block of the effect with the n columns from s on
+  abbrev pub block : ℕ → ℕ → List Float
+  block s n = blockOf (a * b) s n (inverse xs us vs a b)
+
+  -- it is inverted
   abbrev pub Inverted : ℕ → ℕ → Type 0
-  Inverted s n = covInv (a * b) s n (inverse xs us vs a b) ≡ fullColumns n (2 * n) (unit n (leftHalf n (s * (2 * (a * b)) + (a * b + s)) (2 * (a * b)) (inverse xs us vs a b)))
+  Inverted s n = covInv (a * b) s n (inverse xs us vs a b) ≡ fullColumns n (2 * n) (unit n (block s n))
+
+  abbrev Counted : ℕ → ℕ → Type 0
+  Counted s n = covSkips (a * b) s n (inverse xs us vs a b) ≡ skippedInverseCount n (block s n)
+
+  -- the columns that elimination skips, told from each matrix
+  abbrev pub toldSkips : Skips
+  toldSkips = record {
+    solver = skippedCount (a * b) (a * b + 1) (normalSystem xs us vs a b);
+    inverse = skippedInverseCount (a * b) (crossProducts xs us vs a b);
+    «block_a» = skippedInverseCount (a - 1) (block 1 (a - 1));
+    «block_b» = skippedInverseCount (b - 1) (block a (b - 1));
+    «block_ab» = skippedInverseCount ((a - 1) * (b - 1)) (block (a + (b - 1)) ((a - 1) * (b - 1)));
+  }
 
   -- everything is worked out
   pub record Worked : Type 0 where
     pub balanced : balancedSs means first a b ≡ effectsOf means first a b
     pub solved : beta xs us vs a b ≡ backward (a * b) (forward (a * b) (a * b + 1) (normalSystem xs us vs a b))
-    pub inverted : inverse xs us vs a b ≡ fullColumns (a * b) (2 * (a * b)) (unit (a * b) (leftHalf (a * b) 0 (a * b + 1) (normalSystem xs us vs a b)))
+    pub inverted : inverse xs us vs a b ≡ fullColumns (a * b) (2 * (a * b)) (unit (a * b) (crossProducts xs us vs a b))
     pub block-a : Inverted 1 (a - 1)
     pub block-b : Inverted a (b - 1)
     pub block-ab : Inverted (a + (b - 1)) ((a - 1) * (b - 1))
+    pub counted : allEffects xs us vs a b .skips ≡ toldSkips
+
+  all-counted : solvedSkips xs us vs a b ≡ record { solver = toldSkips .solver; inverse = toldSkips .inverse }
+      → Counted 1 (a - 1)
+      → Counted a (b - 1)
+      → Counted (a + (b - 1)) ((a - 1) * (b - 1))
+      → allEffects xs us vs a b .skips ≡ toldSkips
+  unfolding allEffects
+  all-counted s e f g = rw (s, e, f, g)
 
 means-long : (cs : List (List Float)) (k : ℕ) → length (cellMeans cs k) ≡ 36
 unfolding cellMeans noCells
@@ -80,8 +107,17 @@ module _ (xs : List Float) (us vs : List ℕ) (scratch : List Float) (accepted :
         block-a = block-there (a * b) 1 (a - 1) (inverse xs us vs a b) (omega (arith, known .highA));
         block-b = block-there (a * b) a (b - 1) (inverse xs us vs a b) (omega (arith, known .highB));
         block-ab = block-there (a * b) (a + (b - 1)) ((a - 1) * (b - 1)) (inverse xs us vs a b) (omega (arith, c));
+        counted = counted-there;
       }
     where
+      counted-there : allEffects xs us vs a b .skips ≡ toldSkips xs us vs a b
+      counted-there =
+          let c = columns a b (known .lowA) (known .highA) (known .lowB) (known .highB) in
+          all-counted xs us vs a b (skips-there xs us vs a b (known .highA) (known .highB))
+          (block-skips-there (a * b) 1 (a - 1) (inverse xs us vs a b) (omega (arith, known .highA)))
+          (block-skips-there (a * b) a (b - 1) (inverse xs us vs a b) (omega (arith, known .highB)))
+          (block-skips-there (a * b) (a + (b - 1)) ((a - 1) * (b - 1)) (inverse xs us vs a b) (omega (arith, c)))
+
       cell : 0 < a * b
       cell = some a b {n = a * b} (omega (arith, known .lowA)) (omega (arith, known .lowB)) (omega arith)
 

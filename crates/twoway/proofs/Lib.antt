@@ -3,3 +3,4 @@ pub mod Design
 pub mod Guards
 pub mod Cells
 pub mod MeanSquares
+pub mod Skips

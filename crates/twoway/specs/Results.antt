@@ -10,6 +10,7 @@ use Rattle.stats.specs.Sums.{meanOf, sqDev}
 use Rattle.results.specs.Rows.{effectRow, plainRow, noRow}
 use Rattle.twoway_means.specs.declared.CellTable.{CellTable}
 use Rattle.twoway_means.specs.Table.{noLevels, noCells}
+use Rattle.results.specs.Effects.{noSkips}
 use Rattle.results.specs.declared.Effects.{Effects}
 use Rattle.twoway.specs.declared.TwoWayAnovaResult.{TwoWayAnovaResult}
 
@@ -33,6 +34,7 @@ answerOf xs a b t e = record {
   «cell_means» = t .«cell_means»;
   «marginal_means_a» = t .«marginal_means_a»;
   «marginal_means_b» = t .«marginal_means_b»;
+  skips = e .skips;
 }
 
 -- a refused analysis: every other field is zero
@@ -51,4 +53,5 @@ refusedResult r = record {
   «cell_means» = noCells;
   «marginal_means_a» = noLevels;
   «marginal_means_b» = noLevels;
+  skips = noSkips;
 }

@@ -4,11 +4,13 @@ mod table;
 
 use base::Refusal;
 use results::AnovaTableRow;
+use results::Skips;
 ghost use mathlib.Core.Path.{_≡_};
 ghost use Rattle.twoway.specs.Results.{refusedResult};
 ghost use Rattle.twoway.specs.Anova.{twoWayAnova};
 
-// The answer of a two-way analysis. Cell (i, j) stands at place i * levels_b + j; unused places are zero.
+// The answer of a two-way analysis. Cell (i, j) stands at place i * levels_b + j; unused places are zero. A coefficient that was skipped
+// is 0 because the matrix gave out: `skips` counts them, and is all zeros in a balanced design.
 pub struct TwoWayAnovaResult {
     pub refusal: Refusal,
     pub factor_a: AnovaTableRow,
@@ -23,6 +25,7 @@ pub struct TwoWayAnovaResult {
     pub cell_means: [f64; base::MOST_CELLS],
     pub marginal_means_a: [f64; base::MOST_LEVELS],
     pub marginal_means_b: [f64; base::MOST_LEVELS],
+    pub skips: Skips,
 }
 
 // The answer that carries a refusal alone.
@@ -43,6 +46,7 @@ fn refused(refusal: Refusal) -> TwoWayAnovaResult
         cell_means: [0.0; base::MOST_CELLS],
         marginal_means_a: [0.0; base::MOST_LEVELS],
         marginal_means_b: [0.0; base::MOST_LEVELS],
+        skips: results::no_skips(),
     }
 }
 

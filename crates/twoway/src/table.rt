@@ -19,6 +19,7 @@ pub fn answer(values: &[f64], a: usize, b: usize, t: CellTable, e: Effects) -> T
     let cell_means = t.cell_means;
     let means_a = t.marginal_means_a;
     let means_b = t.marginal_means_b;
+    let skips = e.skips;
     TwoWayAnovaResult {
         refusal: Refusal::none(),
         factor_a: results::effect_row(e.ss_a, (a - 1) as f64, ms_error),
@@ -33,5 +34,6 @@ pub fn answer(values: &[f64], a: usize, b: usize, t: CellTable, e: Effects) -> T
         cell_means: cell_means,
         marginal_means_a: means_a,
         marginal_means_b: means_b,
+        skips: skips,
     }
 }

@@ -10,7 +10,7 @@ use Rattle.base.specs.Loop.{loop}
 use Rattle.float.specs.Words.{_⊕_, _⊖_, _⊗_, _⊘_, count, square, plusZero}
 use Rattle.stats.specs.Sums.{sum, sqDev}
 use Rattle.results.specs.declared.Effects.{Effects}
-use Rattle.results.specs.Effects.{noEffects}
+use Rattle.results.specs.Effects.{noSkips, noEffects}
 
 -- ---- is a design balanced?
 
@@ -73,6 +73,7 @@ effectsOf ms r a b = record {
   «ss_a» = count (r * b) ⊗ sqDev (grandOfMeans ms a b) (take a (meansA ms a b));
   «ss_b» = count (r * a) ⊗ sqDev (grandOfMeans ms a b) (take b (meansB ms a b));
   «ss_ab» = ssAb ms (meansA ms a b) (meansB ms a b) (grandOfMeans ms a b) (count r) a b;
+  skips = noSkips;
 }
 
 -- at most 6 levels each, at most 512 readings a cell, a mean for each cell; else zeros

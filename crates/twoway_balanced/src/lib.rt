@@ -105,6 +105,7 @@ fn effects_of(means: &[f64], r: usize, a: usize, b: usize) -> Effects
         ss_a: float::canon(ss_a),
         ss_b: float::canon(ss_b),
         ss_ab: float::canon(ss_ab),
+        skips: results::no_skips(),
     }
 }
 

@@ -1,21 +1,23 @@
 -- Calls one after another on parts of the lent memory: w₀, w₁, .. is the memory, and x what a call left in the part that it was lent.
 use Prim.Native.Nat.{ℕ, _+_, _-_, _*_, _<_, _≤_}
 use mathlib.Core.Path.{_≡_, ap, _∙_}
-use mathlib.Core.Bool.{Bool}
 use mathlib.Core.List.{List, _++_}
 use native.Mathlib.Omega.{arith}
 use lib.ListN.{length, take, drop}
 use lib.Ieee.{Float}
 use Rattle.base.specs.Limits.{mostCells, scratchPlaces}
 use Rattle.base.specs.Lists.{part, within}
+use Rattle.matrix_linear.specs.declared.Elimination.{Elimination}
 use Rattle.matrix_linear.specs.System.{solveLinearSystem}
 use Rattle.matrix_linear.specs.Inverse.{matrixInverse}
 use Rattle.matrix_linear.proofs.Lengths.{solve-length, inverse-length}
 use Rattle.twoway_type3.specs.Matrices.{leftHalf, table}
 use Rattle.twoway_type3.specs.Inner.{halfAt, inverseFrom, blockFrom, mostColumns}
 use Rattle.twoway_type3.specs.Normal.{normalSystem}
-use Rattle.twoway_type3.specs.Wald.{waldSum, covInv, waldSs}
-use Rattle.twoway_type3.specs.Answer.{beta, inverse, allEffects}
+use Rattle.twoway_type3.specs.declared.wald.Effect.{Effect}
+use Rattle.twoway_type3.specs.declared.wald.Solved.{Solved}
+use Rattle.twoway_type3.specs.Wald.{waldSum, blockOf, covInv, covSkips, waldSs}
+use Rattle.twoway_type3.specs.Answer.{crossProducts, beta, inverse, solvedSkips, allEffects}
 use Rattle.twoway_type3.proofs.Sizes.{system-most, inverse-most, block-most, system-rows, block-rows}
 use Rattle.twoway_type3.proofs.Halves.{half-part, length-places}
 use Rattle.twoway_type3.proofs.Lent.{length-part, part-of-taken, laid-length, laid-same, laid-taken, laid-before, laid-after}
@@ -30,13 +32,13 @@ laid a k x s = take a s ++ (x ++ drop k (drop a s))
 
 -- an effect: its block is laid behind the inverse, and inverted there
 module _ (p s n : ℕ) (z : 0 < n) (few : n ≤ mostColumns) (inside : s + n ≤ p) (most : p ≤ mostCells) (w₀ : List Float) (long : length w₀ ≡ scratchPlaces) where
-  pub wald-chain : {w₁ x : List Float} {t : Bool} {r : Float}
+  pub wald-chain : {w₁ x : List Float} {t : Elimination} {r : Float}
       → w₁ ≡ within blockFrom (n * (2 * n)) (λ _. leftHalf n (inverseFrom + (s * (2 * p) + (p + s))) (2 * p) w₀) w₀
       → (x, t) ≡ matrixInverse n (part blockFrom (n * (2 * n)) w₁)
       → r ≡ waldSum p s n (part 0 (p * (p + 1)) (laid blockFrom (n * (2 * n)) x w₁)) (part blockFrom (n * (2 * n)) (laid blockFrom (n * (2 * n)) x w₁))
-      → (r ≡ waldSs p s n (part 0 (p * (p + 1)) w₀) (part inverseFrom (p * (2 * p)) w₀)) × (take blockFrom (laid blockFrom (n * (2 * n)) x w₁) ≡ take blockFrom w₀)
-  unfolding waldSs covInv within
-  wald-chain {w₁} {x} {t} {r} e f g = (g ∙ ap (λ (b : List Float). waldSum p s n b (part blockFrom k (laid blockFrom k x w₁))) front ∙ ap (waldSum p s n (part 0 (p * (p + 1)) w₀)) back, taken)
+      → (record { ss = r; skipped = t .skipped } ≡ waldSs p s n (part 0 (p * (p + 1)) w₀) (part inverseFrom (p * (2 * p)) w₀)) × (take blockFrom (laid blockFrom (n * (2 * n)) x w₁) ≡ take blockFrom w₀)
+  unfolding covInv covSkips within
+  wald-chain {w₁} {x} {t} {r} e f g = (λ i. record { ss = sum i; skipped = inverted i .1 .skipped }, taken)
     where
       k : ℕ
       k = n * (2 * n)
@@ -56,11 +58,8 @@ module _ (p s n : ℕ) (z : 0 < n) (few : n ≤ mostColumns) (inside : s + n ≤
       block : part blockFrom k w₁ ≡ h
       block = ap (part blockFrom k) e ∙ laid-same blockFrom k h w₀ room (half-length n (inverseFrom + (s * (2 * p) + (p + s))) (2 * p) w₀)
 
-      whole : x ≡ matrixInverse n (part blockFrom k w₁) .0
-      whole = ap (λ (y : List Float × Bool). y .0) f
-
       long-x : length x ≡ n * (2 * n)
-      long-x = ap length whole ∙ inverse-length n (part blockFrom k w₁) ∙ length-part blockFrom k w₁ room₁
+      long-x = ap (λ (y : List Float × Elimination). length (y .0)) f ∙ inverse-length n (part blockFrom k w₁) ∙ length-part blockFrom k w₁ room₁
 
       taken : take blockFrom (laid blockFrom k x w₁) ≡ take blockFrom w₀
       taken = laid-taken blockFrom k x w₁ room₁ long-x blockFrom (omega arith) ∙ ap (take blockFrom) e ∙ laid-taken blockFrom k h w₀ room (half-length n (inverseFrom + (s * (2 * p) + (p + s))) (2 * p) w₀) blockFrom (omega arith)
@@ -68,24 +67,27 @@ module _ (p s n : ℕ) (z : 0 < n) (few : n ≤ mostColumns) (inside : s + n ≤
       front : part 0 (p * (p + 1)) (laid blockFrom k x w₁) ≡ part 0 (p * (p + 1)) w₀
       front = part-of-taken 0 (p * (p + 1)) blockFrom (laid blockFrom k x w₁) w₀ (omega (arith, system-most p most)) taken
 
-      back : part blockFrom k (laid blockFrom k x w₁) ≡ matrixInverse n (leftHalf n (s * (2 * p) + (p + s)) (2 * p) (part inverseFrom (p * (2 * p)) w₀)) .0
-      back =
-          laid-same blockFrom k x w₁ room₁ long-x
-          ∙ whole
-          ∙ ap (λ (y : List Float). matrixInverse n y .0) (block ∙ half-part n (s * (2 * p) + (p + s)) (2 * p) inverseFrom (p * (2 * p)) w₀ z (block-rows p s n inside))
+      inverted : (x, t) ≡ matrixInverse n (blockOf p s n (part inverseFrom (p * (2 * p)) w₀))
+      inverted = f ∙ ap (matrixInverse n) (block ∙ half-part n (s * (2 * p) + (p + s)) (2 * p) inverseFrom (p * (2 * p)) w₀ z (block-rows p s n inside))
+
+      back : part blockFrom k (laid blockFrom k x w₁) ≡ matrixInverse n (blockOf p s n (part inverseFrom (p * (2 * p)) w₀)) .0
+      back = laid-same blockFrom k x w₁ room₁ long-x ∙ ap (λ (y : List Float × Elimination). y .0) inverted
+
+      sum : r ≡ waldSum p s n (part 0 (p * (p + 1)) w₀) (matrixInverse n (blockOf p s n (part inverseFrom (p * (2 * p)) w₀)) .0)
+      sum = g ∙ ap (λ (b : List Float). waldSum p s n b (part blockFrom k (laid blockFrom k x w₁))) front ∙ ap (waldSum p s n (part 0 (p * (p + 1)) w₀)) back
 
   -- the same, where j and k are the lengths of the parts as the code works them out
-  pub wald-lent : (j k : ℕ) → j ≡ p * (p + 1) → k ≡ n * (2 * n) → {w₁ x : List Float} {t : Bool} {r : Float}
+  pub wald-lent : (j k : ℕ) → j ≡ p * (p + 1) → k ≡ n * (2 * n) → {w₁ x : List Float} {t : Elimination} {r : Float}
       → w₁ ≡ within blockFrom (n * (2 * n)) (λ _. leftHalf n (inverseFrom + (s * (2 * p) + (p + s))) (2 * p) w₀) w₀
       → (x, t) ≡ matrixInverse n (take k (drop blockFrom w₁))
       → r ≡ waldSum p s n (take j (drop 0 (laid blockFrom k x w₁))) (take k (drop blockFrom (laid blockFrom k x w₁)))
-      → (r ≡ waldSs p s n (part 0 (p * (p + 1)) w₀) (part inverseFrom (p * (2 * p)) w₀)) × (take blockFrom (laid blockFrom k x w₁) ≡ take blockFrom w₀)
+      → (record { ss = r; skipped = t .skipped } ≡ waldSs p s n (part 0 (p * (p + 1)) w₀) (part inverseFrom (p * (2 * p)) w₀)) × (take blockFrom (laid blockFrom k x w₁) ≡ take blockFrom w₀)
   unfolding part
   wald-lent j k ej ek e f g = rw ek (wald-chain e (rw ek at f) (rw (ej, ek) at g))
 
 -- the system is built and copied, solved and inverted
 module _ (values : List Float) (us vs : List ℕ) (a b : ℕ) (some : 0 < a * b) (most : a * b ≤ mostCells) where
-  pub solve-chain : (w₁ : List Float) {w₂ x₃ x₄ : List Float} {t₃ t₄ : Bool}
+  pub solve-chain : (w₁ : List Float) {w₂ x₃ x₄ : List Float} {t₃ t₄ : Elimination}
       → part 0 (a * b * (a * b + 1)) w₁ ≡ normalSystem values us vs a b
       → length w₁ ≡ scratchPlaces
       → w₂ ≡ within inverseFrom (a * b * (2 * (a * b))) (λ _. leftHalf (a * b) 0 (a * b + 1) w₁) w₁
@@ -93,8 +95,9 @@ module _ (values : List Float) (us vs : List ℕ) (a b : ℕ) (some : 0 < a * b)
       → (x₄, t₄) ≡ matrixInverse (a * b) (part inverseFrom (a * b * (2 * (a * b))) (laid 0 (a * b * (a * b + 1)) x₃ w₂))
       → (part 0 (a * b * (a * b + 1)) (laid inverseFrom (a * b * (2 * (a * b))) x₄ (laid 0 (a * b * (a * b + 1)) x₃ w₂)) ≡ beta values us vs a b)
       × (part inverseFrom (a * b * (2 * (a * b))) (laid inverseFrom (a * b * (2 * (a * b))) x₄ (laid 0 (a * b * (a * b + 1)) x₃ w₂)) ≡ inverse values us vs a b)
-  unfolding beta inverse within
-  solve-chain w₁ {w₂} {x₃} {x₄} {t₃} {t₄} e₁ long₁ e₂ e₃ e₄ = (front, back)
+      × (record { solver = t₃ .skipped; inverse = t₄ .skipped } ≡ solvedSkips values us vs a b)
+  unfolding beta inverse solvedSkips within
+  solve-chain w₁ {w₂} {x₃} {x₄} {t₃} {t₄} e₁ long₁ e₂ e₃ e₄ = (front, back, λ i. record { solver = solved i .1 .skipped; inverse = inverted i .1 .skipped })
     where
       p : ℕ
       p = a * b
@@ -129,18 +132,18 @@ module _ (values : List Float) (us vs : List ℕ) (a b : ℕ) (some : 0 < a * b)
       system : part 0 z w₂ ≡ normalSystem values us vs a b
       system = ap (part 0 z) e₂ ∙ laid-before inverseFrom k h w₁ room₁ long-h 0 z (omega (arith, zs)) ∙ e₁
 
-      half : part inverseFrom k w₂ ≡ leftHalf p 0 (p + 1) (normalSystem values us vs a b)
+      half : part inverseFrom k w₂ ≡ crossProducts values us vs a b
       half =
           ap (part inverseFrom k) e₂
           ∙ laid-same inverseFrom k h w₁ room₁ long-h
           ∙ half-part p 0 (p + 1) 0 z w₁ some (system-rows p)
           ∙ ap (leftHalf p 0 (p + 1)) e₁
 
-      solved : x₃ ≡ solveLinearSystem p (part 0 z w₂) .0
-      solved = ap (λ (y : List Float × Bool). y .0) e₃
+      solved : (x₃, t₃) ≡ solveLinearSystem p (normalSystem values us vs a b)
+      solved = e₃ ∙ ap (solveLinearSystem p) system
 
       long-x₃ : length x₃ ≡ z
-      long-x₃ = ap length solved ∙ solve-length p (part 0 z w₂) ∙ length-part 0 z w₂ room₂
+      long-x₃ = ap (λ (y : List Float × Elimination). length (y .0)) e₃ ∙ solve-length p (part 0 z w₂) ∙ length-part 0 z w₂ room₂
 
       w₃ : List Float
       w₃ = laid 0 z x₃ w₂
@@ -151,27 +154,23 @@ module _ (values : List Float) (us vs : List ℕ) (a b : ℕ) (some : 0 < a * b)
       room₃ : inverseFrom + k ≤ length w₃
       room₃ = omega (arith, ks, long₃)
 
-      inverted : x₄ ≡ matrixInverse p (part inverseFrom k w₃) .0
-      inverted = ap (λ (y : List Float × Bool). y .0) e₄
+      inverted : (x₄, t₄) ≡ matrixInverse p (crossProducts values us vs a b)
+      inverted = e₄ ∙ ap (matrixInverse p) (laid-after 0 z x₃ w₂ room₂ long-x₃ inverseFrom k (omega (arith, zs)) ∙ half)
 
       long-x₄ : length x₄ ≡ k
-      long-x₄ = ap length inverted ∙ inverse-length p (part inverseFrom k w₃) ∙ length-part inverseFrom k w₃ room₃
+      long-x₄ = ap (λ (y : List Float × Elimination). length (y .0)) e₄ ∙ inverse-length p (part inverseFrom k w₃) ∙ length-part inverseFrom k w₃ room₃
 
       front : part 0 z (laid inverseFrom k x₄ w₃) ≡ solveLinearSystem p (normalSystem values us vs a b) .0
       front =
           laid-before inverseFrom k x₄ w₃ room₃ long-x₄ 0 z (omega (arith, zs))
           ∙ laid-same 0 z x₃ w₂ room₂ long-x₃
-          ∙ solved
-          ∙ ap (λ (y : List Float). solveLinearSystem p y .0) system
+          ∙ ap (λ (y : List Float × Elimination). y .0) solved
 
-      back : part inverseFrom k (laid inverseFrom k x₄ w₃) ≡ matrixInverse p (leftHalf p 0 (p + 1) (normalSystem values us vs a b)) .0
-      back =
-          laid-same inverseFrom k x₄ w₃ room₃ long-x₄
-          ∙ inverted
-          ∙ ap (λ (y : List Float). matrixInverse p y .0) (laid-after 0 z x₃ w₂ room₂ long-x₃ inverseFrom k (omega (arith, zs)) ∙ half)
+      back : part inverseFrom k (laid inverseFrom k x₄ w₃) ≡ matrixInverse p (crossProducts values us vs a b) .0
+      back = laid-same inverseFrom k x₄ w₃ room₃ long-x₄ ∙ ap (λ (y : List Float × Elimination). y .0) inverted
 
   -- the same, where j and k are the lengths of the parts as the code works them out
-  pub solve-lent : (j k : ℕ) → j ≡ a * b * (a * b + 1) → k ≡ a * b * (2 * (a * b)) → (w₁ : List Float) {w₂ x₃ x₄ : List Float} {t₃ t₄ : Bool}
+  pub solve-lent : (j k : ℕ) → j ≡ a * b * (a * b + 1) → k ≡ a * b * (2 * (a * b)) → (w₁ : List Float) {w₂ x₃ x₄ : List Float} {t₃ t₄ : Elimination}
       → part 0 (a * b * (a * b + 1)) w₁ ≡ normalSystem values us vs a b
       → length w₁ ≡ scratchPlaces
       → w₂ ≡ within inverseFrom (a * b * (2 * (a * b))) (λ _. leftHalf (a * b) 0 (a * b + 1) w₁) w₁
@@ -179,6 +178,7 @@ module _ (values : List Float) (us vs : List ℕ) (a b : ℕ) (some : 0 < a * b)
       → (x₄, t₄) ≡ matrixInverse (a * b) (take k (drop inverseFrom (laid 0 j x₃ w₂)))
       → (part 0 (a * b * (a * b + 1)) (laid inverseFrom k x₄ (laid 0 j x₃ w₂)) ≡ beta values us vs a b)
       × (part inverseFrom (a * b * (2 * (a * b))) (laid inverseFrom k x₄ (laid 0 j x₃ w₂)) ≡ inverse values us vs a b)
+      × (record { solver = t₃ .skipped; inverse = t₄ .skipped } ≡ solvedSkips values us vs a b)
   unfolding part
   solve-lent j k ej ek w₁ e₁ l₁ e₂ e₃ e₄ = rw (ej, ek) (solve-chain w₁ e₁ l₁ e₂ (rw ej at e₃) (rw (ej, ek) at e₄))
 
@@ -199,19 +199,25 @@ module _ (values : List Float) (us vs : List ℕ) (a b : ℕ) (most : a * b ≤ 
     part-of-taken inverseFrom (a * b * (2 * (a * b))) blockFrom w v (omega (arith, inverse-most (a * b) most)) e ∙ r .1,
   )
 
-  one : (s n : ℕ) (w : List Float) {r : Float} → Ready w → r ≡ waldSs (a * b) s n (front w) (back w) → r ≡ waldSs (a * b) s n (beta values us vs a b) (inverse values us vs a b)
+  one : (s n : ℕ) (w : List Float) {r : Effect} → Ready w → r ≡ waldSs (a * b) s n (front w) (back w) → r ≡ waldSs (a * b) s n (beta values us vs a b) (inverse values us vs a b)
   one s n w r e = e ∙ rw (r .0, r .1)
 
-  abbrev pub Wald : ℕ → ℕ → Float → List Float → List Float → Type 0
+  abbrev pub Wald : ℕ → ℕ → Effect → List Float → List Float → Type 0
   Wald s n r v w = (r ≡ waldSs (a * b) s n (front v) (back v)) × (take blockFrom w ≡ take blockFrom v)
 
-  pub effects-chain : (w₁ w₂ w₃ w₄ : List Float) {r₁ r₂ r₃ : Float} → Ready w₁
+  pub effects-chain : (w₁ w₂ w₃ w₄ : List Float) {q : Solved} {r₁ r₂ r₃ : Effect} → Ready w₁ → q ≡ solvedSkips values us vs a b
       → Wald 1 (a - 1) r₁ w₁ w₂
       → Wald a (b - 1) r₂ w₂ w₃
       → Wald (a + (b - 1)) ((a - 1) * (b - 1)) r₃ w₃ w₄
-      → record { «ss_a» = r₁; «ss_b» = r₂; «ss_ab» = r₃ } ≡ allEffects values us vs a b
+      → record {
+        «ss_a» = r₁ .ss;
+        «ss_b» = r₂ .ss;
+        «ss_ab» = r₃ .ss;
+        skips = record { solver = q .solver; inverse = q .inverse; «block_a» = r₁ .skipped; «block_b» = r₂ .skipped; «block_ab» = r₃ .skipped };
+      }
+      ≡ allEffects values us vs a b
   unfolding allEffects
-  effects-chain w₁ w₂ w₃ w₄ r e f g =
+  effects-chain w₁ w₂ w₃ w₄ r d e f g =
       let r₂ = still w₁ w₂ r (e .1) in
       let r₃ = still w₂ w₃ r₂ (f .1) in
-      rw (one 1 (a - 1) w₁ r (e .0), one a (b - 1) w₂ r₂ (f .0), one (a + (b - 1)) ((a - 1) * (b - 1)) w₃ r₃ (g .0))
+      rw (d, one 1 (a - 1) w₁ r (e .0), one a (b - 1) w₂ r₂ (f .0), one (a + (b - 1)) ((a - 1) * (b - 1)) w₃ r₃ (g .0))

@@ -1,6 +1,6 @@
--- What fits passes the guards of the solver and of the inverses: none of them leaves a matrix as it was.
+-- What fits passes the guards of the solver and of the inverses: none of them leaves a matrix as it was, and each counts the columns that it skips.
 use Prim.Native.Nat.{ℕ, _+_, _*_, _≤_}
-use mathlib.Core.Path.{_≡_}
+use mathlib.Core.Path.{_≡_, ap}
 use mathlib.Core.Bool.{true}
 use mathlib.Core.List.{List}
 use native.Mathlib.Omega.{arith}
@@ -8,14 +8,16 @@ use borrow.Author.Tests.{le-leb}
 use lib.ListN.{length}
 use lib.Ieee.{Float}
 use Rattle.base.specs.Limits.{mostCells, mostLevels}
+use Rattle.matrix_linear.specs.declared.Elimination.{Elimination}
 use Rattle.matrix_linear.specs.Rows.{room}
-use Rattle.matrix_linear.specs.System.{forward, backward, solveLinearSystem}
-use Rattle.matrix_linear.specs.Inverse.{unit, fullColumns, matrixInverse}
-use Rattle.twoway_type3.specs.Answer.{beta, inverse}
+use Rattle.matrix_linear.specs.Skips.{takenWith}
+use Rattle.matrix_linear.specs.System.{forward, skippedCount, backward, solveLinearSystem}
+use Rattle.matrix_linear.specs.Inverse.{unit, fullColumns, skippedInverseCount, matrixInverse}
+use Rattle.twoway_type3.specs.Answer.{crossProducts, beta, inverse, solvedSkips}
 use Rattle.twoway_type3.specs.Inner.{mostColumns}
 use Rattle.twoway_type3.specs.Matrices.{leftHalf, table}
 use Rattle.twoway_type3.specs.Normal.{normalSystem}
-use Rattle.twoway_type3.specs.Wald.{covInv}
+use Rattle.twoway_type3.specs.Wald.{blockOf, covInv, covSkips}
 use Rattle.twoway_type3.proofs.Chains.{half-length}
 use Rattle.twoway_type3.proofs.Halves.{length-places}
 use Rattle.twoway_type3.proofs.Sizes.{cells-most}
@@ -25,12 +27,13 @@ room-there : (n w : ℕ) (m : List Float) → n ≤ mostCells → length m ≡ n
 room-there n w m h e = rw (le-leb n mostCells h, le-leb (n * w) (length m) (omega arith))
 
 -- a system is worked out
-system-worked : (n : ℕ) (m : List Float) → n ≤ mostCells → length m ≡ n * (n + 1) → solveLinearSystem n m .0 ≡ backward n (forward n (n + 1) m)
+system-worked : (n : ℕ) (m : List Float) → n ≤ mostCells → length m ≡ n * (n + 1) → solveLinearSystem n m ≡ (backward n (forward n (n + 1) m), takenWith (skippedCount n (n + 1) m))
 unfolding solveLinearSystem
 system-worked n m h e = rw (room-there n (n + 1) m h e)
 
 -- an inverse is worked out
-inverse-worked : (n from w : ℕ) (m : List Float) → n ≤ mostCells → matrixInverse n (leftHalf n from w m) .0 ≡ fullColumns n (2 * n) (unit n (leftHalf n from w m))
+inverse-worked : (n from w : ℕ) (m : List Float) → n ≤ mostCells
+    → matrixInverse n (leftHalf n from w m) ≡ (fullColumns n (2 * n) (unit n (leftHalf n from w m)), takenWith (skippedInverseCount n (leftHalf n from w m)))
 unfolding matrixInverse
 inverse-worked n from w m h = rw (room-there n (2 * n) (leftHalf n from w m) h (half-length n from w m))
 
@@ -39,17 +42,36 @@ module _ (values : List Float) (us vs : List ℕ) (a b : ℕ) (most-a : a ≤ mo
   unfolding normalSystem table
   system-length = length-places 0 (a * b * (a * b + 1)) _
 
+  solved : solveLinearSystem (a * b) (normalSystem values us vs a b) ≡ (backward (a * b) (forward (a * b) (a * b + 1) (normalSystem values us vs a b)), takenWith (skippedCount (a * b) (a * b + 1) (normalSystem values us vs a b)))
+  solved = system-worked (a * b) (normalSystem values us vs a b) (cells-most a b most-a most-b) system-length
+
+  inverted : matrixInverse (a * b) (crossProducts values us vs a b) ≡ (fullColumns (a * b) (2 * (a * b)) (unit (a * b) (crossProducts values us vs a b)), takenWith (skippedInverseCount (a * b) (crossProducts values us vs a b)))
+  inverted = inverse-worked (a * b) 0 (a * b + 1) (normalSystem values us vs a b) (cells-most a b most-a most-b)
+
   -- the coefficients come from elimination and back substitution
   pub beta-there : beta values us vs a b ≡ backward (a * b) (forward (a * b) (a * b + 1) (normalSystem values us vs a b))
   unfolding beta
-  beta-there = system-worked (a * b) (normalSystem values us vs a b) (cells-most a b most-a most-b) system-length
+  beta-there = ap (λ (x : List Float × Elimination). x .0) solved
 
   -- the inverse of X'X from Gauss and Jordan
-  pub inverse-there : inverse values us vs a b ≡ fullColumns (a * b) (2 * (a * b)) (unit (a * b) (leftHalf (a * b) 0 (a * b + 1) (normalSystem values us vs a b)))
+  pub inverse-there : inverse values us vs a b ≡ fullColumns (a * b) (2 * (a * b)) (unit (a * b) (crossProducts values us vs a b))
   unfolding inverse
-  inverse-there = inverse-worked (a * b) 0 (a * b + 1) (normalSystem values us vs a b) (cells-most a b most-a most-b)
+  inverse-there = ap (λ (x : List Float × Elimination). x .0) inverted
 
--- and so that of an effect's block
-pub block-there : (p s n : ℕ) (m : List Float) → n ≤ mostColumns → covInv p s n m ≡ fullColumns n (2 * n) (unit n (leftHalf n (s * (2 * p) + (p + s)) (2 * p) m))
-unfolding covInv
-block-there p s n m h = inverse-worked n (s * (2 * p) + (p + s)) (2 * p) m (omega arith)
+  -- and the counts of both from their matrices
+  pub skips-there : solvedSkips values us vs a b ≡ record { solver = skippedCount (a * b) (a * b + 1) (normalSystem values us vs a b); inverse = skippedInverseCount (a * b) (crossProducts values us vs a b) }
+  unfolding solvedSkips
+  skips-there = rw (solved, inverted)
+
+-- so do those of an effect's block
+module _ (p s n : ℕ) (m : List Float) (h : n ≤ mostColumns) where
+  block : matrixInverse n (blockOf p s n m) ≡ (fullColumns n (2 * n) (unit n (blockOf p s n m)), takenWith (skippedInverseCount n (blockOf p s n m)))
+  block = inverse-worked n (s * (2 * p) + (p + s)) (2 * p) m (omega arith)
+
+  pub block-there : covInv p s n m ≡ fullColumns n (2 * n) (unit n (blockOf p s n m))
+  unfolding covInv
+  block-there = ap (λ (x : List Float × Elimination). x .0) block
+
+  pub block-skips-there : covSkips p s n m ≡ skippedInverseCount n (blockOf p s n m)
+  unfolding covSkips
+  block-skips-there = ap (λ (x : List Float × Elimination). x .1 .skipped) block

@@ -11,25 +11,50 @@ use Rattle.lent.specs.Wiping.{wiped}
 use Rattle.twoway_type3.specs.Matrices.{leftHalf}
 use Rattle.twoway_type3.specs.Normal.{normalSystem}
 use Rattle.twoway_type3.specs.Wald.{waldSs}
+use Rattle.twoway_type3.specs.declared.wald.Effect.{Effect}
+use Rattle.twoway_type3.specs.declared.wald.Solved.{Solved}
 use Rattle.results.specs.declared.Effects.{Effects}
 use Rattle.results.specs.Effects.{noEffects}
 
 module _ (values : List Float) (us vs : List ℕ) (a b : ℕ) where
+  -- X'X, the left of the system, on the left of the rows for its inverse
+  abbrev pub crossProducts : List Float
+  crossProducts = leftHalf (a * b) 0 (a * b + 1) (normalSystem values us vs a b)
+
   -- the coefficients: the last column of the solved system
   unfoldable pub beta : List Float
   beta = solveLinearSystem (a * b) (normalSystem values us vs a b) .0
 
-  -- the inverse of X'X, on the right of its rows: X'X is the left of the system
+  -- the inverse of X'X, on the right of its rows
   unfoldable pub inverse : List Float
-  inverse = matrixInverse (a * b) (leftHalf (a * b) 0 (a * b + 1) (normalSystem values us vs a b)) .0
+  inverse = matrixInverse (a * b) crossProducts .0
+
+  -- how many columns the solver skipped, and the inverse
+  unfoldable pub solvedSkips : Solved
+  solvedSkips = record { solver = solveLinearSystem (a * b) (normalSystem values us vs a b) .1 .skipped; inverse = matrixInverse (a * b) crossProducts .1 .skipped }
 
   -- the effect with the n columns from s on
-  abbrev pub effect : ℕ → ℕ → Float
+  abbrev pub effect : ℕ → ℕ → Effect
   effect s n = waldSs (a * b) s n beta inverse
 
   -- A has the columns behind the first, B those behind A's, and the interaction the rest
+  abbrev pub effectA : Effect
+  effectA = effect 1 (a - 1)
+
+  abbrev pub effectB : Effect
+  effectB = effect a (b - 1)
+
+  abbrev pub effectAb : Effect
+  effectAb = effect (a + (b - 1)) ((a - 1) * (b - 1))
+
+  -- their sums of squares, and what each elimination skipped, in the order in which they are made
   unfoldable pub allEffects : Effects
-  allEffects = record { «ss_a» = effect 1 (a - 1); «ss_b» = effect a (b - 1); «ss_ab» = effect (a + (b - 1)) ((a - 1) * (b - 1)) }
+  allEffects = record {
+    «ss_a» = effectA .ss;
+    «ss_b» = effectB .ss;
+    «ss_ab» = effectAb .ss;
+    skips = record { solver = solvedSkips .solver; inverse = solvedSkips .inverse; «block_a» = effectA .skipped; «block_b» = effectB .skipped; «block_ab» = effectAb .skipped };
+  }
 
 -- the memory after the call, and the sums of squares
 unfoldable pub type3Ss : List Float → List ℕ → List ℕ → ℕ → ℕ → List Float → List Float × Effects

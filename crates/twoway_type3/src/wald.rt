@@ -2,6 +2,7 @@
 use crate::half::left_half;
 use crate::normal::normal_system;
 use results::Effects;
+use results::Skips;
 ghost use mathlib.Core.Path.{_≡_};
 ghost use Prim.Native.Nat.{_+_, _*_, _≤_, _<_};
 ghost use lib.ListN.{length, take};
@@ -9,12 +10,24 @@ ghost use Rattle.base.specs.Limits.{mostCells, scratchPlaces};
 ghost use Rattle.base.specs.Lists.{part};
 ghost use Rattle.twoway_type3.specs.Inner.{Fitting, inverseFrom, blockFrom, mostColumns};
 ghost use Rattle.twoway_type3.specs.Wald.{waldRow, waldSum, waldSs};
-ghost use Rattle.twoway_type3.specs.Answer.{beta, inverse, allEffects};
+ghost use Rattle.twoway_type3.specs.Answer.{beta, inverse, solvedSkips, allEffects};
 
 // Where the inverse of X'X lies, behind the system, once the rows of the cells are done with; and where an effect's block lies, behind both.
 const INVERSE: usize = crate::normal::ROWS;
 
 const BLOCK: usize = INVERSE + base::MOST_CELLS * (2 * base::MOST_CELLS);
+
+// The sum of squares of an effect, and how many columns the inversion of its block skipped.
+pub struct Effect {
+    pub ss: f64,
+    pub skipped: usize,
+}
+
+// How many columns the solver skipped, and how many the inverse of X'X.
+pub struct Solved {
+    pub solver: usize,
+    pub inverse: usize,
+}
 
 // The products of coefficient s + i with row i of the inverted block, added to ss.
 fn wald_row(beta: &[f64], cov: &[f64], p: usize, s: usize, n: usize, i: usize, ss: f64) -> f64
@@ -41,28 +54,42 @@ fn wald_sum(beta: &[f64], cov: &[f64], p: usize, s: usize, n: usize) -> f64
 }
 
 // The sum of squares of the effect with the n columns from s on.
-fn wald_ss(work: &mut [f64], p: usize, s: usize, n: usize) -> f64
+fn wald_ss(work: &mut [f64], p: usize, s: usize, n: usize) -> Effect
     requires { ⌜ (0 < n) × (n ≤ mostColumns) × (s + n ≤ p) × (p ≤ mostCells) × (length (now work) ≡ scratchPlaces) ⌝ }
     ensures { λ r. ⌜ (r ≡ waldSs p s n (part 0 (p * (p + 1)) (now (work .entry))) (part inverseFrom (p * (2 * p)) (now (work .entry)))) × (take blockFrom (now (work .exit)) ≡ take blockFrom (now (work .entry))) ⌝ }
 {
     left_half(work, BLOCK, n, INVERSE + (s * (2 * p) + (p + s)), 2 * p);
     let end = BLOCK + n * (2 * n);
-    matrix_linear::matrix_inverse(&mut work[BLOCK..end], n);
-    wald_sum(&work[0..p * (p + 1)], &work[BLOCK..end], p, s, n)
+    let e = matrix_linear::matrix_inverse(&mut work[BLOCK..end], n);
+    Effect {
+        ss: wald_sum(&work[0..p * (p + 1)], &work[BLOCK..end], p, s, n),
+        skipped: e.skipped,
+    }
 }
 
 // The coefficients, in the last column of the system, and behind it the inverse of X'X, on the right of its rows.
-fn solve(values: &[f64], factor_a: &[u32], factor_b: &[u32], a: usize, b: usize, work: &mut [f64])
+fn solve(
+    values: &[f64],
+    factor_a: &[u32],
+    factor_b: &[u32],
+    a: usize,
+    b: usize,
+    work: &mut [f64],
+) -> Solved
     requires { ⌜ Fitting (now values) (now «factor_a») (now «factor_b») a b × (length (now work) ≡ scratchPlaces) ⌝ }
-    ensures { λ _. ⌜ (part 0 (a * b * (a * b + 1)) (now (work .exit)) ≡ beta (now (values .entry)) (now («factor_a» .entry)) (now («factor_b» .entry)) a b) × (part inverseFrom (a * b * (2 * (a * b))) (now (work .exit)) ≡ inverse (now (values .entry)) (now («factor_a» .entry)) (now («factor_b» .entry)) a b) ⌝ }
+    ensures { λ r. ⌜ (part 0 (a * b * (a * b + 1)) (now (work .exit)) ≡ beta (now (values .entry)) (now («factor_a» .entry)) (now («factor_b» .entry)) a b) × (part inverseFrom (a * b * (2 * (a * b))) (now (work .exit)) ≡ inverse (now (values .entry)) (now («factor_a» .entry)) (now («factor_b» .entry)) a b) × (r ≡ solvedSkips (now (values .entry)) (now («factor_a» .entry)) (now («factor_b» .entry)) a b) ⌝ }
 {
     let p = a * b;
     let z = p * (p + 1);
     let end = INVERSE + p * (2 * p);
     normal_system(values, factor_a, factor_b, a, b, work);
     left_half(work, INVERSE, p, 0, p + 1);
-    matrix_linear::solve_linear_system(&mut work[0..z], p);
-    matrix_linear::matrix_inverse(&mut work[INVERSE..end], p);
+    let solved = matrix_linear::solve_linear_system(&mut work[0..z], p);
+    let inverted = matrix_linear::matrix_inverse(&mut work[INVERSE..end], p);
+    Solved {
+        solver: solved.skipped,
+        inverse: inverted.skipped,
+    }
 }
 
 pub fn all_effects(
@@ -76,14 +103,21 @@ pub fn all_effects(
     requires { ⌜ Fitting (now values) (now «factor_a») (now «factor_b») a b × (length (now work) ≡ scratchPlaces) ⌝ }
     ensures { λ r. ⌜ r ≡ allEffects (now (values .entry)) (now («factor_a» .entry)) (now («factor_b» .entry)) a b ⌝ }
 {
-    solve(values, factor_a, factor_b, a, b, work);
+    let solved = solve(values, factor_a, factor_b, a, b, work);
     let p = a * b;
-    let ss_a = wald_ss(work, p, 1, a - 1);
-    let ss_b = wald_ss(work, p, a, b - 1);
-    let ss_ab = wald_ss(work, p, a + (b - 1), (a - 1) * (b - 1));
+    let of_a = wald_ss(work, p, 1, a - 1);
+    let of_b = wald_ss(work, p, a, b - 1);
+    let of_ab = wald_ss(work, p, a + (b - 1), (a - 1) * (b - 1));
     Effects {
-        ss_a: ss_a,
-        ss_b: ss_b,
-        ss_ab: ss_ab,
+        ss_a: of_a.ss,
+        ss_b: of_b.ss,
+        ss_ab: of_ab.ss,
+        skips: Skips {
+            solver: solved.solver,
+            inverse: solved.inverse,
+            block_a: of_a.skipped,
+            block_b: of_b.skipped,
+            block_ab: of_ab.skipped,
+        },
     }
 }

@@ -1,4 +1,4 @@
--- Document 01, "Worked numbers", and the studies of request W-203: one table of questions and answers, and one theorem that each answer is what the definitions give.
+-- Document 01, "Worked numbers", the studies of request W-203 and the skipped columns of W-204: one table of questions and answers, and one theorem that each answer is what the definitions give.
 use Prim.Native.Nat.{ℕ}
 use mathlib.Core.Path.{_≡_, refl}
 use mathlib.Core.Bool.{Bool, true, false, cond}
@@ -14,6 +14,7 @@ use Rattle.oneway.specs.declared.AnovaKind.{AnovaKind}
 use Rattle.oneway.specs.declared.AnovaKind.the-variants.{Fisher, Welch}
 use Rattle.results.specs.declared.OneWayAnovaResult.{OneWayAnovaResult}
 use Rattle.results.specs.Results.{noSizes, noMeans}
+use Rattle.results.specs.declared.Skips.{Skips}
 use Rattle.oneway.specs.Fisher.{fisherAnova}
 use Rattle.oneway.specs.Welch.{welchAnova}
 use Rattle.oneway.specs.Anova.{anova, oneWayAnova}
@@ -31,6 +32,8 @@ use Rattle.float.specs.Words.{plusZero}
 use Rattle.float.specs.Singles.{absOf, isFinite, leastOf, greatestOf, clampOf, powerFrom, powerOf}
 use Rattle.base.specs.Lists.{part}
 use Rattle.matrix_linear.specs.Determinant.{twoByTwo, detOf, matrixDeterminant}
+use Rattle.matrix_linear.specs.declared.Elimination.{Elimination}
+use Rattle.matrix_linear.specs.Skips.{pivotSkips, beforeColumn, skippedIn, skippedOf}
 use Rattle.matrix_linear.specs.Rows.{swapRows, better, pivotRow, pivoted, clearRow, clearBelow}
 use Rattle.matrix_linear.specs.System.{cleared, column, forward, backSum, backValue, backRow, backward, solveLinearSystem}
 use Rattle.matrix_linear.specs.Inverse.{zeroRight, unitRow, unit, clearOther, clearOthers, scaled, reduced, fullColumn, fullColumns, matrixInverse}
@@ -38,8 +41,9 @@ use Rattle.lent.specs.Wiping.{zeros as lentZeros}
 use Rattle.twoway_type3.specs.Coding.{effectCode, codesFrom, productsOf, products, designRow}
 use Rattle.twoway_type3.specs.Matrices.{places, table, halfOf, leftHalf}
 use Rattle.twoway_type3.specs.Normal.{rowOf, normalAt, normalSystem}
-use Rattle.twoway_type3.specs.Wald.{waldRow, waldSum, covInv, waldSs}
-use Rattle.twoway_type3.specs.Answer.{beta, inverse, allEffects}
+use Rattle.twoway_type3.specs.Wald.{waldRow, waldSum, covInv, covSkips}
+use Rattle.twoway_type3.specs.Shape.{factorFits, fits as type3Fits}
+use Rattle.twoway_type3.specs.Answer.{beta, inverse, solvedSkips, allEffects, type3Ss}
 use Rattle.repeated_checks.specs.Checks.{designRefusal, subjectFault, repeatedRefusal}
 use Rattle.repeated_grid.specs.Table.{noSubjects, noConditions, subjectMeans, conditionSum, conditionMeans, ssTotal, ssSubjects, ssConditions}
 use Rattle.matrix_places.specs.Places.{refuses, dot, lessRow, overRow}
@@ -64,6 +68,9 @@ pub data Asked : Type 0 where
   TwoWay : List ℕ → List ℕ → List ℕ → Asked
   Study : List ℕ → List ℕ → List ℕ → Asked
   Repeated : Bool → List ℕ → List ℕ → Asked
+  TypeIII : List ℕ → List ℕ → ℕ → ℕ → Asked
+  System : ℕ → List ℕ → Asked
+  Inverse : ℕ → List ℕ → Asked
 
 -- a float by its bits, a mark as 1 or 0
 abbrev shown : Float → ℕ
@@ -84,12 +91,17 @@ oneWayLine r =
     ∷ mark (r .«has_grand_mean») ∷ shown (r .«grand_mean»)
     ∷ r .«group_sizes» ++ map shown (r .«group_means»)
 
--- the refusal and its details; the sums of squares of A, B, the interaction, the residual and the total; the three F
+-- what the solver skipped, the inverse of X'X, and the inverses of the blocks of A, B and the interaction
+abbrev skipsLine : Skips → List ℕ
+skipsLine s = s .solver ∷ s .inverse ∷ s .«block_a» ∷ s .«block_b» ∷ s .«block_ab» ∷ []
+
+-- the refusal and its details; the sums of squares of A, B, the interaction, the residual and the total; the three F; what was skipped
 abbrev twoWayLine : TwoWayAnovaResult → List ℕ
 twoWayLine r =
     r .refusal .number ∷ r .refusal .first ∷ r .refusal .second
     ∷ shown (r .«factor_a» .ss) ∷ shown (r .«factor_b» .ss) ∷ shown (r .interaction .ss) ∷ shown (r .residual .ss) ∷ shown (r .total .ss)
-    ∷ shown (r .«factor_a» .f) ∷ shown (r .«factor_b» .f) ∷ shown (r .interaction .f) ∷ []
+    ∷ shown (r .«factor_a» .f) ∷ shown (r .«factor_b» .f) ∷ shown (r .interaction .f)
+    ∷ skipsLine (r .skips)
 
 -- the refusal and its details; the components of A, B, the interaction and the residual, and their total
 abbrev studyLine : GaugeStudy → List ℕ
@@ -104,6 +116,10 @@ repeatedLine r =
     ∷ shown (r .«within_subjects» .ss) ∷ shown (r .subjects .ss) ∷ shown (r .error .ss) ∷ shown (r .total .ss) ∷ shown (r .«within_subjects» .f)
     ∷ mark (r .«has_sphericity») ∷ shown (r .sphericity .w) ∷ shown (r .«greenhouse_geisser» .epsilon) ∷ shown (r .«huynh_feldt» .epsilon) ∷ []
 
+-- whether the rows were taken, how many columns were skipped, and what the rows then hold
+abbrev matrixLine : List Float × Elimination → List ℕ
+matrixLine s = mark (s .1 .taken) ∷ s .1 .skipped ∷ map shown (s .0)
+
 -- what is lent
 unfoldable pub lent : List Float
 lent = replicate 6400 plusZero
@@ -114,6 +130,9 @@ answer (Root x) = shown (sqrtOf (ofBits binary64 x)) ∷ []
 answer (TwoWay xs us vs) = twoWayLine (twoWayAnova (map (ofBits binary64) xs) us vs lent .1)
 answer (Study xs us vs) = studyLine (gaugeStudy (map (ofBits binary64) xs) us vs lent .1)
 answer (Repeated wanted xs ns) = repeatedLine (repeatedMeasuresAnova (map (ofBits binary64) xs) ns wanted)
+answer (TypeIII us vs a b) = skipsLine (type3Ss (map (λ (u : ℕ). plusZero) us) us vs a b lent .1 .skips)
+answer (System n xs) = matrixLine (solveLinearSystem n (map (ofBits binary64) xs))
+answer (Inverse n xs) = matrixLine (matrixInverse n (map (ofBits binary64) xs))
 
 -- a line of the table: the question, and the answer that the paper gives
 abbrev Line : Type 0
@@ -229,15 +248,15 @@ lines =
     ∷ (OneWay Fisher (n2 ∷ n2 ∷ n2 ∷ n2 ∷ []) (2 ∷ 2 ∷ []), begins ++ notANumber ∷ n1 ∷ n2 ∷ 1 ∷ 0 ∷ 0 ∷ 0 ∷ 1 ∷ 0 ∷ 0 ∷ 1 ∷ n2 ∷ ends n2 n2)
     ∷ (OneWay Fisher (n1 ∷ n1 ∷ n3 ∷ n3 ∷ []) (2 ∷ 2 ∷ []), begins ++ infinite ∷ n1 ∷ n2 ∷ 1 ∷ n4 ∷ 0 ∷ n4 ∷ 1 ∷ n4 ∷ 0 ∷ 1 ∷ n2 ∷ ends n1 n3)
     -- P6 2x2, cells {1,3},{5,7},{3,5},{11,13}; and P7, its study
-    ∷ (TwoWay p6 meters benches, 0 ∷ 0 ∷ 0 ∷ n32 ∷ n72 ∷ n8 ∷ n8 ∷ n120 ∷ n16 ∷ n36 ∷ n4 ∷ [])
+    ∷ (TwoWay p6 meters benches, 0 ∷ 0 ∷ 0 ∷ n32 ∷ n72 ∷ n8 ∷ n8 ∷ n120 ∷ n16 ∷ n36 ∷ n4 ∷ replicate 5 0)
     ∷ (Study p6 meters benches, 0 ∷ 0 ∷ 0 ∷ n6 ∷ n16 ∷ n3 ∷ n2 ∷ n27 ∷ [])
     -- W-203 the study of {1,3},{5,7},{3,5},{7,9}: the interaction's difference is -2
     ∷ (Study (n1 ∷ n3 ∷ n5 ∷ n7 ∷ n3 ∷ n5 ∷ n7 ∷ n9 ∷ []) meters benches, 0 ∷ 0 ∷ 0 ∷ n2 ∷ n8 ∷ 0 ∷ n2 ∷ n12 ∷ [])
     -- and of {x,-x},{x,-x},{0,0},{0,0} with x = 2^-537: the interaction's difference is -2^-1074, the double next below zero, and half of it would be -0.0
     ∷ (Study (0x1E60000000000000 ∷ 0x9E60000000000000 ∷ 0x1E60000000000000 ∷ 0x9E60000000000000 ∷ replicate 4 0) meters benches, 0 ∷ 0 ∷ 0 ∷ 0 ∷ 0 ∷ 0 ∷ 1 ∷ 1 ∷ [])
     -- P8 one reading a cell; and one reading more, which is accepted: its counts differ, so these are Type III
-    ∷ (TwoWay (n1 ∷ n2 ∷ n3 ∷ n5 ∷ []) (0 ∷ 0 ∷ 1 ∷ 1 ∷ []) (0 ∷ 1 ∷ 0 ∷ 1 ∷ []), 2 ∷ 5 ∷ 4 ∷ replicate 8 0)
-    ∷ (TwoWay (n1 ∷ n2 ∷ n3 ∷ n5 ∷ n7 ∷ []) (0 ∷ 0 ∷ 1 ∷ 1 ∷ 1 ∷ []) (0 ∷ 1 ∷ 0 ∷ 1 ∷ 1 ∷ []), 0 ∷ 0 ∷ 0 ∷ 0x4024924924924924 ∷ 0x4012492492492494 ∷ 0x3FF2492492492492 ∷ n2 ∷ 0x4037333333333332 ∷ 0x4014924924924924 ∷ 0x4002492492492494 ∷ 0x3FE2492492492492 ∷ [])
+    ∷ (TwoWay (n1 ∷ n2 ∷ n3 ∷ n5 ∷ []) (0 ∷ 0 ∷ 1 ∷ 1 ∷ []) (0 ∷ 1 ∷ 0 ∷ 1 ∷ []), 2 ∷ 5 ∷ 4 ∷ replicate 13 0)
+    ∷ (TwoWay (n1 ∷ n2 ∷ n3 ∷ n5 ∷ n7 ∷ []) (0 ∷ 0 ∷ 1 ∷ 1 ∷ 1 ∷ []) (0 ∷ 1 ∷ 0 ∷ 1 ∷ 1 ∷ []), 0 ∷ 0 ∷ 0 ∷ 0x4024924924924924 ∷ 0x4012492492492494 ∷ 0x3FF2492492492492 ∷ n2 ∷ 0x4037333333333332 ∷ 0x4014924924924924 ∷ 0x4002492492492494 ∷ 0x3FE2492492492492 ∷ replicate 5 0)
     -- P9 the subjects {1,3},{5,9}
     ∷ (Repeated false (n1 ∷ n3 ∷ n5 ∷ n9 ∷ []) (2 ∷ 2 ∷ []), 0 ∷ 0 ∷ 0 ∷ n9 ∷ n25 ∷ n1 ∷ n35 ∷ n9 ∷ 0 ∷ 0 ∷ 0 ∷ 0 ∷ [])
     -- P10 two subjects, three conditions, all zero, with sphericity: a hundred rounds of QR
@@ -250,6 +269,13 @@ lines =
     -- P12 one group; seventeen groups
     ∷ (OneWay Fisher (n1 ∷ n3 ∷ []) (2 ∷ []), refusal 3 1 0)
     ∷ (OneWay Fisher (replicate 34 n1) (replicate 17 2), refusal 11 1 17)
+    -- W-204 the system {0} with the right side 1: its one column is skipped, and x is +0.0; and the inverse of {0}, where the 1 of the unit matrix stays
+    ∷ (System 1 (0 ∷ n1 ∷ []), 1 ∷ 1 ∷ 0 ∷ 0 ∷ [])
+    ∷ (Inverse 1 (0 ∷ 0 ∷ []), 1 ∷ 1 ∷ 0 ∷ n1 ∷ [])
+    -- and of {1e-15, 1e20}, {1e-15, 1}: the first column is skipped, and the second takes its multiple from that row, so that no small number is left on the diagonal
+    ∷ (Inverse 2 (0x3CD203AF9EE75616 ∷ 0x4415AF1D78B58C40 ∷ 0 ∷ 0 ∷ 0x3CD203AF9EE75616 ∷ n1 ∷ 0 ∷ 0 ∷ []), 1 ∷ 1 ∷ 0xC0F86A0000000001 ∷ 0 ∷ n1 ∷ 0xC415AF1D78B58C40 ∷ 0x3CD203AF9EE75616 ∷ n1 ∷ 0 ∷ n1 ∷ [])
+    -- and what Type III skips in 4 by 3 levels with readings in four cells alone, which a two-way analysis refuses with 7
+    ∷ (TypeIII (0 ∷ 0 ∷ 0 ∷ 0 ∷ 3 ∷ []) (0 ∷ 1 ∷ 1 ∷ 2 ∷ 0 ∷ []) 4 3, 9 ∷ 8 ∷ 0 ∷ 1 ∷ 0 ∷ [])
     ∷ []
 
 abbrev asked : Line → List ℕ
@@ -259,5 +285,5 @@ abbrev given : Line → List ℕ
 given l = l .1
 
 pub worked : map asked lines ≡ map given lines
-unfolding answer refusedResult allEffects beta inverse waldRow waldSum covInv waldSs rowOf normalAt normalSystem places table halfOf leftHalf effectCode codesFrom productsOf products designRow lentZeros zeroRight unitRow unit clearOther clearOthers scaled reduced fullColumn fullColumns matrixInverse cleared column forward backSum backValue backRow backward solveLinearSystem swapRows better pivotRow pivoted clearRow clearBelow repeatedMeasuresAnova repeatedAnswer repeatedRefusal designRefusal firstFault subjectFault noSubjects noConditions subjectMeans conditionSum conditionMeans ssTotal ssSubjects ssConditions part computeSphericityCorrections correctionsOf cscHere ggOf values ggRaw epsilonGg hfRaw usable epsilonHf trace meanTrace det wRaw mauchlyW dfW matrixDeterminant detOf twoByTwo absOf isFinite leastOf greatestOf clampOf powerFrom powerOf contrastCovariance fits throughContrasts orthonormalContrasts contrasts contrastRows contrastRow covMatrix covRows covRow noCovariances covariance covSum computeEigenvalues diagonal rounds round qrHere zeros qrColumns qrColumn remains normalize newColumn putColumn projections project lessColumn columnOf blankColumn matrixMultiplyCsc csc blank product productRow orthonormalize orthonormalRows orthonormalRow normalizeRow projectRows projectRow overRow lessRow refuses dot lent twoWayAnova squaresOf answerOf twoWayRefusal shapeRefusal levelsRefusal cellsRefusal largest cells cell numbers tallyLine listed noLevels noCells margins cellMeans ssError unlike otherCount meanLine meanMargins abRow ssAb balancedSs balanceRefusal studyRefusal componentOf componentsOf gaugeStudy loop turns oneWayAnova anova fisherAnova welchAnova noSizes noMeans oneWayRefusal sizesRefusal groupFault guarded total cut some sumBy sqrtOf ofBits toBits add sub mul div neg lt ofInt isNan
+unfolding answer refusedResult type3Ss factorFits type3Fits allEffects beta inverse solvedSkips waldRow waldSum covInv covSkips pivotSkips beforeColumn skippedIn skippedOf rowOf normalAt normalSystem places table halfOf leftHalf effectCode codesFrom productsOf products designRow lentZeros zeroRight unitRow unit clearOther clearOthers scaled reduced fullColumn fullColumns matrixInverse cleared column forward backSum backValue backRow backward solveLinearSystem swapRows better pivotRow pivoted clearRow clearBelow repeatedMeasuresAnova repeatedAnswer repeatedRefusal designRefusal firstFault subjectFault noSubjects noConditions subjectMeans conditionSum conditionMeans ssTotal ssSubjects ssConditions part computeSphericityCorrections correctionsOf cscHere ggOf values ggRaw epsilonGg hfRaw usable epsilonHf trace meanTrace det wRaw mauchlyW dfW matrixDeterminant detOf twoByTwo absOf isFinite leastOf greatestOf clampOf powerFrom powerOf contrastCovariance fits throughContrasts orthonormalContrasts contrasts contrastRows contrastRow covMatrix covRows covRow noCovariances covariance covSum computeEigenvalues diagonal rounds round qrHere zeros qrColumns qrColumn remains normalize newColumn putColumn projections project lessColumn columnOf blankColumn matrixMultiplyCsc csc blank product productRow orthonormalize orthonormalRows orthonormalRow normalizeRow projectRows projectRow overRow lessRow refuses dot lent twoWayAnova squaresOf answerOf twoWayRefusal shapeRefusal levelsRefusal cellsRefusal largest cells cell numbers tallyLine listed noLevels noCells margins cellMeans ssError unlike otherCount meanLine meanMargins abRow ssAb balancedSs balanceRefusal studyRefusal componentOf componentsOf gaugeStudy loop turns oneWayAnova anova fisherAnova welchAnova noSizes noMeans oneWayRefusal sizesRefusal groupFault guarded total cut some sumBy sqrtOf ofBits toBits add sub mul div neg lt ofInt isNan
 worked = refl

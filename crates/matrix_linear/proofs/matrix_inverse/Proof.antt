@@ -8,8 +8,11 @@ use Rattle.matrix_linear.specs.Rows.{mostRows}
 use Rattle.matrix_linear.proofs.matrix_inverse.Statement.{statement}
 use Rattle.matrix_linear.proofs.matrix_inverse.Tie as tie
 
+not-taken-requires : tie.Need-not-taken-requires
+not-taken-requires c κs = search needs
+
 returns : tie.Need-returns
-returns c = inverse-many _ _ (c .if1 .taken)
+returns c = inverse-many _ _ (c .before .if1 .taken) (c .not-taken .ensures)
 
 mul-if2 : tie.Need-mul-if2
 mul-if2 c = omega arith
@@ -18,8 +21,11 @@ mul-if2-2 : tie.Need-mul-if2-2
 mul-if2-2 c = let h : 2 * c .before .before .args .n ≤ 2 * mostRows = omega arith in
     omega (arith, product-le mostRows (2 * mostRows) (c .if1 .left) h)
 
+not-taken-requires-2 : tie.Need-not-taken-requires-2
+not-taken-requires-2 c κs = search needs
+
 returns-2 : tie.Need-returns-2
-returns-2 c = inverse-short _ _ (c .before .if1 .left) (c .if2 .taken)
+returns-2 c = inverse-short _ _ (c .before .before .if1 .left) (c .before .if2 .taken) (c .not-taken2 .ensures)
 
 unit-requires : tie.Need-unit-requires
 unit-requires c κs = search needs
@@ -53,9 +59,11 @@ pub matrix-inverse-spec : {M : Type 1} → statement M
 matrix-inverse-spec =
     tie.close
     (tie.spec
+    not-taken-requires
     returns
     mul-if2
     mul-if2-2
+    not-taken-requires-2
     returns-2
     unit-requires
     mul-full-columns

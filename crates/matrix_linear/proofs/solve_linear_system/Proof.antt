@@ -8,8 +8,11 @@ use Rattle.matrix_linear.specs.Rows.{mostRows}
 use Rattle.matrix_linear.proofs.solve_linear_system.Statement.{statement}
 use Rattle.matrix_linear.proofs.solve_linear_system.Tie as tie
 
+not-taken-requires : tie.Need-not-taken-requires
+not-taken-requires c κs = search needs
+
 returns : tie.Need-returns
-returns c = solve-many _ _ (c .if1 .taken)
+returns c = solve-many _ _ (c .before .if1 .taken) (c .not-taken .ensures)
 
 add-if2 : tie.Need-add-if2
 add-if2 c = omega arith
@@ -18,8 +21,11 @@ mul-if2 : tie.Need-mul-if2
 mul-if2 c = let h : c .before .before .args .n + 1 ≤ mostRows + 1 = omega arith in
     omega (arith, product-le mostRows (mostRows + 1) (c .if1 .left) h)
 
+not-taken-requires-2 : tie.Need-not-taken-requires-2
+not-taken-requires-2 c κs = search needs
+
 returns-2 : tie.Need-returns-2
-returns-2 c = solve-short _ _ (c .before .if1 .left) (c .if2 .taken)
+returns-2 c = solve-short _ _ (c .before .before .if1 .left) (c .before .if2 .taken) (c .not-taken2 .ensures)
 
 add-forward : tie.Need-add-forward
 add-forward c = omega arith
@@ -53,9 +59,11 @@ pub solve-linear-system-spec : {M : Type 1} → statement M
 solve-linear-system-spec =
     tie.close
     (tie.spec
+    not-taken-requires
     returns
     add-if2
     mul-if2
+    not-taken-requires-2
     returns-2
     add-forward
     forward-requires

@@ -103,13 +103,17 @@ canon-requires-2 c κs = search needs
 canon-requires-3 : tie.Need-canon-requires-3
 canon-requires-3 c κs = search needs
 
+no-skips-requires : tie.Need-no-skips-requires
+no-skips-requires c κs = search needs
+
 returns : tie.Need-returns
 returns c =
-    let ab = c .before .before .before in
+    let canonical = c .before in
+    let ab = canonical .before .before .before in
     let b = ab .before .before .before .before in
     let a = b .before .before .before in
     let summed = a .before .before .before .before in
-    rw (c .canon3 .ensures, c .before .canon2 .ensures, c .before .before .canon .ensures, ab .ss-ab .ensures, b .sq-dev2 .ensures, a .sq-dev .ensures, summed .sum .ensures, summed .before .mean-margins2 .ensures, summed .before .before .mean-margins .ensures)
+    rw (c .no-skips .ensures, canonical .canon3 .ensures, canonical .before .canon2 .ensures, canonical .before .before .canon .ensures, ab .ss-ab .ensures, b .sq-dev2 .ensures, a .sq-dev .ensures, summed .sum .ensures, summed .before .mean-margins2 .ensures, summed .before .before .mean-margins .ensures)
 
 pub effects-of-spec : {M : Type 1} → statement M
 effects-of-spec =
@@ -135,4 +139,5 @@ effects-of-spec =
     canon-requires
     canon-requires-2
     canon-requires-3
+    no-skips-requires
     returns)

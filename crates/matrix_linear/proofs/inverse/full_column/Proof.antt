@@ -1,10 +1,11 @@
--- The pivot is looked at where the swap has put it. A skipped column stays as the swap left it; else the pivot's row is divided first and then taken from the others, as in the definition.
+-- The pivot is looked at where the swap has put it. A skipped column stays as the swap left it and is counted; else the pivot's row is divided first and then taken from the others, as in the definition.
 use lib.ListN.{length}
 use Prim.Native.Nat.{_≤_, _+_, _*_}
 use mathlib.Core.Path.{sym, _∙_}
 use native.Mathlib.Omega.{arith}
 use borrow.Author.Needs.{needs}
-use Rattle.matrix_linear.proofs.Columns.{full-skipped, full-cleared}
+use Rattle.matrix_linear.specs.Inverse.{fullColumn}
+use Rattle.matrix_linear.proofs.Columns.{full-skipped, full-cleared, counts-one, counts-none}
 use Rattle.base.proofs.Bounds.{row-end}
 use Rattle.matrix_places.proofs.Rows.{over-room}
 use Rattle.matrix_linear.proofs.inverse.full_column.Statement.{statement}
@@ -30,11 +31,17 @@ add-p c = omega (arith, row (c .before .before .before .before .before))
 skips-requires : tie.Need-skips-requires
 skips-requires c κs = omega (arith, row (c .before .before .before .before .before .before))
 
+add-result : tie.Need-add-result
+add-result c = omega arith
+
 same-length : tie.Need-same-length
 same-length c = search needs
 
 returns : tie.Need-returns
-returns c = full-skipped _ _ _ _ (c .before .before .before .before .before .pivot .ensures) (sym (c .before .skips .ensures) ∙ c .if1 .taken)
+returns c =
+    let swapped = c .before .before .before .before .before .pivot .ensures in
+    let small = sym (c .before .skips .ensures) ∙ c .if1 .taken in
+    counts-one _ _ _ _ swapped (fullColumn _ _) _ small (full-skipped _ _ _ _ swapped small)
 
 mul-d : tie.Need-mul-d
 mul-d c = omega (arith, row-left c)
@@ -58,8 +65,10 @@ returns-2 : tie.Need-returns-2
 returns-2 c =
     let divided = c .before .before .before .before .before .before in
     let e = divided .before .before .before in
-    full-cleared _ _ _ _ (e .before .before .before .before .before .pivot .ensures) (sym (e .before .skips .ensures) ∙ e .if1 .left)
-    (over-room _ _ _ _ (omega (arith, row-left e)) (divided .over-row .ensures)) (c .before .before .clear-others .ensures)
+    let swapped = e .before .before .before .before .before .pivot .ensures in
+    let large = sym (e .before .skips .ensures) ∙ e .if1 .left in
+    counts-none _ _ _ _ swapped (fullColumn _ _) _ large
+    (full-cleared _ _ _ _ swapped large (over-room _ _ _ _ (omega (arith, row-left e)) (divided .over-row .ensures)) (c .before .before .clear-others .ensures))
 
 pub full-column-spec : {M : Type 1} → statement M
 full-column-spec =
@@ -69,6 +78,7 @@ full-column-spec =
     mul-p
     add-p
     skips-requires
+    add-result
     same-length
     returns
     mul-d

@@ -4,7 +4,9 @@ use mathlib.Core.Path.{_≡_}
 use native.Mathlib.Omega.{arith}
 use borrow.Author.Needs.{needs}
 use lib.ListN.{length}
-use Rattle.matrix_linear.specs.Inverse.{fullColumn, fullColumns}
+use Rattle.matrix_linear.specs.Inner.{counted, allCounted}
+use Rattle.matrix_linear.specs.Inverse.{fullColumn}
+use Rattle.matrix_linear.proofs.Counting.{counting-is}
 use Rattle.base.proofs.Bounds.{row-end}
 use Rattle.base.specs.Loop.{loop}
 use Rattle.base.proofs.Loops.{step, ends}
@@ -12,14 +14,13 @@ use Rattle.matrix_linear.proofs.inverse.full_columns.Statement.{stateme
 use Rattle.matrix_linear.proofs.inverse.full_columns.Tie as tie
 
 abbrev Inv-loop : tie.InvT-loop
-Inv-loop m₀ n w col₀ m col = (n * w ≤ length m) × ((length m ≡ length m₀) × (loop col n (fullColumn n w) m ≡ fullColumns n w m₀))
+Inv-loop m₀ n w skipped₀ col₀ m skipped col = (n * w ≤ length m) × ((length m ≡ length m₀) × (skipped ≤ col) × (loop col n (counted (fullColumn n w) n w) (m, skipped) ≡ allCounted (fullColumn n w) n w m₀))
 
 abbrev μ-loop : tie.MeasureT-loop
-μ-loop m₀ n w col₀ m col = n - col
+μ-loop m₀ n w skipped₀ col₀ m skipped col = n - col
 
 loop-holds : tie.Need-loop-holds Inv-loop μ-loop
-unfolding fullColumns
-loop-holds c = search needs
+loop-holds c = search (needs, counting-is)
 
 full-column-requires : tie.Need-full-column-requires Inv-loop μ-loop
 full-column-requires c κs = search (needs, row-end)
@@ -31,7 +32,7 @@ loop-less : tie.Need-loop-less Inv-loop μ-loop
 loop-less c = omega arith
 
 loop-again : tie.Need-loop-again Inv-loop μ-loop
-loop-again c = (omega arith, (omega arith, search step))
+loop-again c = (omega arith, (omega arith, omega arith, search step))
 
 same-length : tie.Need-same-length Inv-loop μ-loop
 same-length c = search needs

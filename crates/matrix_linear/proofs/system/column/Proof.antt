@@ -1,10 +1,11 @@
--- The pivot is looked at where the swap has put it. A skipped column stays as the swap left it, any other is cleared below.
+-- The pivot is looked at where the swap has put it. A skipped column stays as the swap left it and is counted, any other is cleared below.
 use lib.ListN.{length}
 use Prim.Native.Nat.{_≤_, _+_, _*_}
 use mathlib.Core.Path.{sym, _∙_}
 use native.Mathlib.Omega.{arith}
 use borrow.Author.Needs.{needs}
-use Rattle.matrix_linear.proofs.Columns.{column-skipped, column-cleared}
+use Rattle.matrix_linear.specs.System.{column}
+use Rattle.matrix_linear.proofs.Columns.{column-skipped, column-cleared, counts-one, counts-none}
 use Rattle.base.proofs.Bounds.{row-end}
 use Rattle.matrix_linear.proofs.system.column.Statement.{statement}
 use Rattle.matrix_linear.proofs.system.column.Tie as tie
@@ -25,11 +26,17 @@ add-skips c = omega (arith, row (c .before .before .before .before .before .befo
 skips-requires : tie.Need-skips-requires
 skips-requires c κs = omega (arith, row (c .before .before .before .before .before .before))
 
+add-result : tie.Need-add-result
+add-result c = omega arith
+
 same-length : tie.Need-same-length
 same-length c = search needs
 
 returns : tie.Need-returns
-returns c = column-skipped _ _ _ _ (c .before .before .before .before .before .pivot .ensures) (sym (c .before .skips .ensures) ∙ c .if1 .taken)
+returns c =
+    let swapped = c .before .before .before .before .before .pivot .ensures in
+    let small = sym (c .before .skips .ensures) ∙ c .if1 .taken in
+    counts-one _ _ _ _ swapped (column _ _) _ small (column-skipped _ _ _ _ swapped small)
 
 clear-below-requires : tie.Need-clear-below-requires
 clear-below-requires c κs = search needs
@@ -38,8 +45,11 @@ same-length-2 : tie.Need-same-length-2
 same-length-2 c = search needs
 
 returns-2 : tie.Need-returns-2
-returns-2 c = let e = c .before .before .before .before in
-    column-cleared _ _ _ _ (e .before .before .before .before .before .pivot .ensures) (sym (e .before .skips .ensures) ∙ e .if1 .left) (c .before .before .clear-below .ensures)
+returns-2 c =
+    let e = c .before .before .before .before in
+    let swapped = e .before .before .before .before .before .pivot .ensures in
+    let large = sym (e .before .skips .ensures) ∙ e .if1 .left in
+    counts-none _ _ _ _ swapped (column _ _) _ large (column-cleared _ _ _ _ swapped large (c .before .before .clear-below .ensures))
 
 pub column-spec : {M : Type 1} → statement M
 column-spec =
@@ -49,6 +59,7 @@ column-spec =
     mul-skips
     add-skips
     skips-requires
+    add-result
     same-length
     returns
     clear-below-requires

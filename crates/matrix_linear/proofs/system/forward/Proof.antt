@@ -1,10 +1,12 @@
--- Column after column; each keeps the memory's length, so the next finds its rows.
+-- Column after column, with the count beside the memory; each keeps the memory's length, so the next finds its rows.
 use Prim.Native.Nat.{_≤_, _-_, _*_}
 use mathlib.Core.Path.{_≡_}
 use native.Mathlib.Omega.{arith}
 use borrow.Author.Needs.{needs}
 use lib.ListN.{length}
-use Rattle.matrix_linear.specs.System.{column, forward}
+use Rattle.matrix_linear.specs.Inner.{counted, allCounted}
+use Rattle.matrix_linear.specs.System.{column}
+use Rattle.matrix_linear.proofs.Counting.{counting-is}
 use Rattle.base.proofs.Bounds.{row-end}
 use Rattle.base.specs.Loop.{loop}
 use Rattle.base.proofs.Loops.{step, ends}
@@ -12,14 +14,13 @@ use Rattle.matrix_linear.proofs.system.forward.Statement.{statement}
 use Rattle.matrix_linear.proofs.system.forward.Tie as tie
 
 abbrev Inv-loop : tie.InvT-loop
-Inv-loop m₀ n w col₀ m col = (n * w ≤ length m) × ((length m ≡ length m₀) × (loop col n (column n w) m ≡ forward n w m₀))
+Inv-loop m₀ n w skipped₀ col₀ m skipped col = (n * w ≤ length m) × ((length m ≡ length m₀) × (skipped ≤ col) × (loop col n (counted (column n w) n w) (m, skipped) ≡ allCounted (column n w) n w m₀))
 
 abbrev μ-loop : tie.MeasureT-loop
-μ-loop m₀ n w col₀ m col = n - col
+μ-loop m₀ n w skipped₀ col₀ m skipped col = n - col
 
 loop-holds : tie.Need-loop-holds Inv-loop μ-loop
-unfolding forward
-loop-holds c = search needs
+loop-holds c = search (needs, counting-is)
 
 column-requires : tie.Need-column-requires Inv-loop μ-loop
 column-requires c κs = search (needs, row-end)
@@ -31,7 +32,7 @@ loop-less : tie.Need-loop-less Inv-loop μ-loop
 loop-less c = omega arith
 
 loop-again : tie.Need-loop-again Inv-loop μ-loop
-loop-again c = (omega arith, (omega arith, search step))
+loop-again c = (omega arith, (omega arith, omega arith, search step))
 
 same-length : tie.Need-same-length Inv-loop μ-loop
 same-length c = search needs

@@ -14,7 +14,7 @@ abbrev start : tie.After-sq-dev → tie.Start
 start c = c .before .before .before .before .before
 
 abbrev begun : tie.After-none → tie.Start
-begun c = start (c .before .before .before .before .before .before)
+begun c = start (c .before .before .before .before .before .before .before)
 
 -- the place where the effects' rows begin, seen from behind each of them
 abbrev first : tie.After-effect-row → tie.After-none
@@ -106,7 +106,7 @@ returns c =
     let b = ab .before .before in
     let a = b .before .before in
     let none = a .before .before in
-    let residual = none .before .before .before .before in
+    let residual = none .before .before .before .before .before in
     let total = residual .before .before in
     let mean = total .before in
     rw (c .plain-row2 .ensures, ab .effect-row3 .ensures, b .effect-row2 .ensures, a .effect-row .ensures, none .none .ensures, residual .plain-row .ensures, total .sq-dev .ensures, mean .canon .ensures, mean .before .before .sum .ensures)

@@ -79,7 +79,7 @@ returns c =
     let at-first = at-second .before .before .before .before in
     let at-solve = at-first .before .before .before .before in
     let s = at-a (at-first .before) in
-    effects-chain (s .args .values .now) (s .args .factor-a .now) (s .args .factor-b .now) (s .args .a) (s .args .b) (all-columns s) (at-solve .solve .last .1 .1 .1 .1 .1 .0) (at-first .wald-ss .last .0) (at-second .wald-ss2 .last .0) (at-third .wald-ss3 .last .0) (at-solve .solve .ensures) (at-first .wald-ss .ensures) (at-second .wald-ss2 .ensures) (at-third .wald-ss3 .ensures)
+    effects-chain (s .args .values .now) (s .args .factor-a .now) (s .args .factor-b .now) (s .args .a) (s .args .b) (all-columns s) (at-solve .solve .last .1 .1 .1 .1 .1 .0) (at-first .wald-ss .last .0) (at-second .wald-ss2 .last .0) (at-third .wald-ss3 .last .0) (at-solve .solve .ensures .0, at-solve .solve .ensures .1) (at-solve .solve .ensures .2) (at-first .wald-ss .ensures) (at-second .wald-ss2 .ensures) (at-third .wald-ss3 .ensures)
 
 pub all-effects-spec : {M : Type 1} → statement M
 all-effects-spec =
