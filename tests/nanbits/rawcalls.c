@@ -10,7 +10,7 @@
 enum {
     CANON, CANON_PLACES, ABS, LEAST, GREATEST, CLAMP, POWER, FLOAT_OF, ROOT, PUT, WIPE, SUM, SQ_DEV, MEAN, VARIANCE, REFUSED, EMPTY_ROWS, ROW, VALIDATE, FISHER, WELCH,
     REPORT_FISHER, REPORT_WELCH, VIEW, LOAD, EDIT, SHEET_FISHER, SHEET_WELCH, READ_SET, SET_FISHER, SET_WELCH, EFFECT_ROW, PLAIN_ROW, NO_ROW, NO_EFFECTS, CELL_TABLE, BALANCED_SS,
-    TYPE3_SS, ORGANIZE, ORGANIZE_REFUSED, TWO_WAY, TWO_WAY_UNBALANCED, TWO_WAY_REFUSED, STUDY, STUDY_REFUSED, RM_TABLE, REPEATED, REPEATED_SPHERICITY, COVARIANCE,
+    NORMAL_EQUATIONS, TYPE3_SS, ORGANIZE, ORGANIZE_REFUSED, TWO_WAY, TWO_WAY_UNBALANCED, TWO_WAY_REFUSED, STUDY, STUDY_REFUSED, RM_TABLE, REPEATED, REPEATED_SPHERICITY, COVARIANCE,
     CORRECTIONS, NO_CORRECTIONS, SOLVE, INVERSE, DETERMINANT, DOT, LESS_ROW, OVER_ROW, ORTHONORMALIZE, PRODUCT, CSC, QR, EIGENVALUES, RAW
 };
 
@@ -32,7 +32,7 @@ static struct call raw[RAW] = {
     KEEP(EDIT, "Sheet's edits, the row", 2, 2), CALL(SHEET_FISHER, "Sheet::report, Fisher", 25, 23), CALL(SHEET_WELCH, "Sheet::report, Welch", 25, 18),
     CALL(READ_SET, "set::read_set", 512, 512), CALL(SET_FISHER, "set::set_anova, Fisher", 25, 23), CALL(SET_WELCH, "set::set_anova, Welch", 25, 18),
     CALL(EFFECT_ROW, "results::effect_row", 4, 4), CALL(PLAIN_ROW, "results::plain_row", 4, 3), CALL(CELL_TABLE, "twoway_means::cell_table", 49, 49),
-    CALL(BALANCED_SS, "twoway_balanced::balanced_ss", 3, 3), CALL(TYPE3_SS, "twoway_type3::type3_ss", 3, 3), CALL(TWO_WAY, "two_way_anova, balanced", 69, 62),
+    CALL(BALANCED_SS, "twoway_balanced::balanced_ss", 3, 3), CALL(NORMAL_EQUATIONS, "normal_equations, X'y", 36, 36), CALL(TYPE3_SS, "twoway_type3::type3_ss", 3, 3), CALL(TWO_WAY, "two_way_anova, balanced", 69, 62),
     CALL(TWO_WAY_UNBALANCED, "two_way_anova, unbalanced", 69, 62), CALL(TWO_WAY_REFUSED, "two_way_anova, refused", 69, 0),
     CALL(STUDY, "gauge_study", 5, 5), CALL(STUDY_REFUSED, "gauge_study, refused", 5, 0),
     CALL(ORGANIZE, "organize_two_way_data", 0, 0), CALL(ORGANIZE_REFUSED, "organize_.., refused", 0, 0), CALL(RM_TABLE, "repeated_grid::rm_table", 81, 81),
@@ -334,6 +334,26 @@ static void ask_two_way(const struct set *s, int balanced) {
     ask_design(balanced ? TWO_WAY : TWO_WAY_UNBALANCED, s, any_nan(s) ? &a_nan : &taken);
 }
 
+/* The normal equations: X'y stands behind the rows of X'X, which has no NaN; where the rows of codes were kept is +0.0. All other places are as they were. */
+static void ask_equations(const struct set *s, unsigned levels_a, unsigned levels_b) {
+    unsigned p = levels_a * levels_b, kept = 36 * 37, end = kept + (levels_a + 1) * (levels_b + 1) * p;
+    with(&one, s->readings, s->n);
+    took(NORMAL_EQUATIONS, s, !raw_normal_equations(one.at, s->n, s->code_a, s->n, s->code_b, s->n, levels_a, levels_b, with(&two, NULL, SCRATCH), SCRATCH + BEHIND), 0);
+    for (unsigned i = 0; i < p * (p + 1); i++) {
+        uint64_t b = bits(two.at[i]);
+        if (i % (p + 1) == p) look(raw + NORMAL_EQUATIONS, s, i / (p + 1), b);
+        else if (is_nan(b)) fail(raw + NORMAL_EQUATIONS, s, 0, "a NaN in X'X", i, b);
+        two.was[i] = b;
+    }
+    for (unsigned i = kept; i < end; i++) {
+        if (bits(two.at[i]) != 0) fail(raw + NORMAL_EQUATIONS, s, 0, "a place is not +0.0", i, bits(two.at[i]));
+        two.was[i] = 0;
+    }
+    wrote(NORMAL_EQUATIONS, s, &two, 0, 0);
+    took(NORMAL_EQUATIONS, s, !raw_normal_equations(one.at, s->n, s->code_a, s->n, s->code_b, s->n, levels_a, levels_b, with(&two, NULL, SCRATCH), SCRATCH - 1), 1);
+    wrote(NORMAL_EQUATIONS, s, &two, 0, 0);
+}
+
 static void ask_cells(struct set *s, unsigned kind, unsigned levels_a, unsigned levels_b, unsigned most, int spoilt) {
     static size_t counts[ROWS];
     for (int balanced = 0; balanced < 2; balanced++) {
@@ -348,6 +368,7 @@ static void ask_cells(struct set *s, unsigned kind, unsigned levels_a, unsigned 
         raw_balanced_ss(one.at, s->k, s->sizes[0], levels_a, levels_b, LENT(two, 3)), took(BALANCED_SS, s, 0, 0), wrote(BALANCED_SS, s, &two, 3, 0);
         codes(s, kind < KINDS);
         with(&one, s->readings, s->n);
+        ask_equations(s, levels_a, levels_b);
         raw_type3_ss(one.at, s->n, s->code_a, s->n, s->code_b, s->n, levels_a, levels_b, with(&two, NULL, SCRATCH), SCRATCH + BEHIND, LENT(three, 3));
         took(TYPE3_SS, s, 0, 0), wrote(TYPE3_SS, s, &three, 3, 0), zeros(TYPE3_SS, s, &two, SCRATCH);
         struct design taken = {SCRATCH + BEHIND, s->n, s->n, {0, 0, 0, levels_a, levels_b, s->n}};

@@ -10,11 +10,11 @@ use lib.Ieee.{Float}
 use lib.ListN.{length, getD}
 use Rattle.base.proofs.Bounds.{row-end}
 use Rattle.twoway_checks.specs.Cells.{cell}
-use Rattle.twoway_type3.specs.Counted.{cellOf, cellsOf, cellAt, countsOf}
-use Rattle.twoway_type3.specs.Inner.{Fitting}
-use Rattle.twoway_type3.proofs.Counted.{counts-tell}
-use Rattle.twoway_type3.proofs.Tallies.{sumTo, hit}
-use Rattle.twoway_type3.proofs.Ways.{row-of, column-of}
+use Rattle.twoway_normal.specs.Counted.{cellOf, cellsOf, cellAt, countsOf}
+use Rattle.twoway_normal.specs.Inner.{Fitting}
+use Rattle.twoway_normal.proofs.Counted.{counts-tell}
+use Rattle.twoway_normal.proofs.Tallies.{sumTo, hit}
+use Rattle.twoway_normal.proofs.Ways.{row-of, column-of}
 
 first-out : (h : ℕ → ℕ) (n : ℕ) → sumTo h (suc n) ≡ h 0 + sumTo (λ r. h (suc r)) n
 unfolding sumTo

@@ -21,7 +21,7 @@ use Rattle.twoway_balanced.specs.Squares.{otherCount, balancedSs}
 use Rattle.base.proofs.Loops.{listed-length}
 use Rattle.float.specs.Words.{plusZero}
 use Rattle.twoway_means.specs.Table.{cellTable, tableFits, tableOf, cellMean, cellMeans, noCells}
-use Rattle.twoway_type3.specs.Shape.{fits, factorFits}
+use Rattle.twoway_normal.specs.Shape.{fits, factorFits}
 use Rattle.lent.specs.Wiping.{wiped, zeros}
 use Rattle.twoway_type3.specs.Answer.{type3Ss, allEffects}
 use Rattle.twoway.specs.declared.TwoWayAnovaResult.{TwoWayAnovaResult}

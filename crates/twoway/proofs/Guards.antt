@@ -22,14 +22,19 @@ use Rattle.twoway_checks.specs.Cells.{cells, cellCounts}
 use Rattle.twoway_checks.specs.Checks.{levels, twoWayRefusal}
 use Rattle.twoway_checks.specs.Data.{twoWayData}
 use Rattle.twoway_means.specs.Table.{cellMean, cellMeans, noCells}
-use Rattle.twoway_type3.specs.Answer.{crossProducts, beta, inverse, solvedSkips, allEffects}
-use Rattle.twoway_type3.specs.Normal.{normalSystem}
+use Rattle.twoway_normal.specs.Normal.{normalSystem}
+use Rattle.twoway_normal.proofs.Entries.{system-length}
+use Rattle.twoway_normal.proofs.Sizes.{columns}
+use Rattle.twoway_type3.specs.Answer.{crossProducts, beta, inverse, solvedSkips, effectsFrom, allEffects}
 use Rattle.twoway_type3.specs.Wald.{blockOf, covInv, covSkips}
 use Rattle.twoway_type3.proofs.Guards.{beta-there, inverse-there, skips-there, block-there, block-skips-there}
-use Rattle.twoway_type3.proofs.Sizes.{columns}
 use Rattle.twoway.proofs.Counts.{some}
 
 module _ (xs : List Float) (us vs : List ℕ) (a b : ℕ) where
+  -- the normal equations
+  abbrev pub system : List Float
+  system = normalSystem xs us vs a b
+
   abbrev pub means : List Float
   means = take (a * b) (cellMeans (cells a b xs us vs) (a * b))
 
@@ -38,20 +43,20 @@ module _ (xs : List Float) (us vs : List ℕ) (a b : ℕ) where
 
   -- the block of the effect with the n columns from s on
   abbrev pub block : ℕ → ℕ → List Float
-  block s n = blockOf (a * b) s n (inverse xs us vs a b)
+  block s n = blockOf (a * b) s n (inverse system a b)
 
   -- it is inverted
   abbrev pub Inverted : ℕ → ℕ → Type 0
-  Inverted s n = covInv (a * b) s n (inverse xs us vs a b) ≡ fullColumns n (2 * n) (unit n (block s n))
+  Inverted s n = covInv (a * b) s n (inverse system a b) ≡ fullColumns n (2 * n) (unit n (block s n))
 
   abbrev Counted : ℕ → ℕ → Type 0
-  Counted s n = covSkips (a * b) s n (inverse xs us vs a b) ≡ skippedInverseCount n (block s n)
+  Counted s n = covSkips (a * b) s n (inverse system a b) ≡ skippedInverseCount n (block s n)
 
   -- the columns that elimination skips, told from each matrix
   abbrev pub toldSkips : Skips
   toldSkips = record {
-    solver = skippedCount (a * b) (a * b + 1) (normalSystem xs us vs a b);
-    inverse = skippedInverseCount (a * b) (crossProducts xs us vs a b);
+    solver = skippedCount (a * b) (a * b + 1) system;
+    inverse = skippedInverseCount (a * b) (crossProducts system a b);
     «block_a» = skippedInverseCount (a - 1) (block 1 (a - 1));
     «block_b» = skippedInverseCount (b - 1) (block a (b - 1));
     «block_ab» = skippedInverseCount ((a - 1) * (b - 1)) (block (a + (b - 1)) ((a - 1) * (b - 1)));
@@ -60,19 +65,19 @@ module _ (xs : List Float) (us vs : List ℕ) (a b : ℕ) where
   -- everything is worked out
   pub record Worked : Type 0 where
     pub balanced : balancedSs means first a b ≡ effectsOf means first a b
-    pub solved : beta xs us vs a b ≡ backward (a * b) (forward (a * b) (a * b + 1) (normalSystem xs us vs a b))
-    pub inverted : inverse xs us vs a b ≡ fullColumns (a * b) (2 * (a * b)) (unit (a * b) (crossProducts xs us vs a b))
+    pub solved : beta system a b ≡ backward (a * b) (forward (a * b) (a * b + 1) system)
+    pub inverted : inverse system a b ≡ fullColumns (a * b) (2 * (a * b)) (unit (a * b) (crossProducts system a b))
     pub block-a : Inverted 1 (a - 1)
     pub block-b : Inverted a (b - 1)
     pub block-ab : Inverted (a + (b - 1)) ((a - 1) * (b - 1))
     pub counted : allEffects xs us vs a b .skips ≡ toldSkips
 
-  all-counted : solvedSkips xs us vs a b ≡ record { solver = toldSkips .solver; inverse = toldSkips .inverse }
+  all-counted : solvedSkips system a b ≡ record { solver = toldSkips .solver; inverse = toldSkips .inverse }
       → Counted 1 (a - 1)
       → Counted a (b - 1)
       → Counted (a + (b - 1)) ((a - 1) * (b - 1))
       → allEffects xs us vs a b .skips ≡ toldSkips
-  unfolding allEffects
+  unfolding effectsFrom
   all-counted s e f g = rw (s, e, f, g)
 
 means-long : (cs : List (List Float)) (k : ℕ) → length (cellMeans cs k) ≡ 36
@@ -102,21 +107,24 @@ module _ (xs : List Float) (us vs : List ℕ) (scratch : List Float) (accepted :
       let c = columns a b (known .lowA) (known .highA) (known .lowB) (known .highB) in
       record {
         balanced = balanced-there;
-        solved = beta-there xs us vs a b (known .highA) (known .highB);
-        inverted = inverse-there xs us vs a b (known .highA) (known .highB);
-        block-a = block-there (a * b) 1 (a - 1) (inverse xs us vs a b) (omega (arith, known .highA));
-        block-b = block-there (a * b) a (b - 1) (inverse xs us vs a b) (omega (arith, known .highB));
-        block-ab = block-there (a * b) (a + (b - 1)) ((a - 1) * (b - 1)) (inverse xs us vs a b) (omega (arith, c));
+        solved = beta-there (system xs us vs a b) a b (known .highA) (known .highB) whole;
+        inverted = inverse-there (system xs us vs a b) a b (known .highA) (known .highB) whole;
+        block-a = block-there (a * b) 1 (a - 1) (inverse (system xs us vs a b) a b) (omega (arith, known .highA));
+        block-b = block-there (a * b) a (b - 1) (inverse (system xs us vs a b) a b) (omega (arith, known .highB));
+        block-ab = block-there (a * b) (a + (b - 1)) ((a - 1) * (b - 1)) (inverse (system xs us vs a b) a b) (omega (arith, c));
         counted = counted-there;
       }
     where
+      whole : length (system xs us vs a b) ≡ a * b * (a * b + 1)
+      whole = system-length xs us vs a b
+
       counted-there : allEffects xs us vs a b .skips ≡ toldSkips xs us vs a b
       counted-there =
           let c = columns a b (known .lowA) (known .highA) (known .lowB) (known .highB) in
-          all-counted xs us vs a b (skips-there xs us vs a b (known .highA) (known .highB))
-          (block-skips-there (a * b) 1 (a - 1) (inverse xs us vs a b) (omega (arith, known .highA)))
-          (block-skips-there (a * b) a (b - 1) (inverse xs us vs a b) (omega (arith, known .highB)))
-          (block-skips-there (a * b) (a + (b - 1)) ((a - 1) * (b - 1)) (inverse xs us vs a b) (omega (arith, c)))
+          all-counted xs us vs a b (skips-there (system xs us vs a b) a b (known .highA) (known .highB) whole)
+          (block-skips-there (a * b) 1 (a - 1) (inverse (system xs us vs a b) a b) (omega (arith, known .highA)))
+          (block-skips-there (a * b) a (b - 1) (inverse (system xs us vs a b) a b) (omega (arith, known .highB)))
+          (block-skips-there (a * b) (a + (b - 1)) ((a - 1) * (b - 1)) (inverse (system xs us vs a b) a b) (omega (arith, c)))
 
       cell : 0 < a * b
       cell = some a b {n = a * b} (omega (arith, known .lowA)) (omega (arith, known .lowB)) (omega arith)

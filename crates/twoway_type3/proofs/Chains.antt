@@ -11,16 +11,18 @@ use Rattle.matrix_linear.specs.declared.Elimination.{Elimination}
 use Rattle.matrix_linear.specs.System.{solveLinearSystem}
 use Rattle.matrix_linear.specs.Inverse.{matrixInverse}
 use Rattle.matrix_linear.proofs.Lengths.{solve-length, inverse-length}
-use Rattle.twoway_type3.specs.Matrices.{leftHalf, table}
+use Rattle.twoway_normal.specs.Tables.{table}
+use Rattle.twoway_normal.proofs.Entries.{length-places}
+use Rattle.twoway_normal.proofs.Lent.{length-part, part-of-taken, laid-length, laid-same, laid-taken, laid-before, laid-after}
+use Rattle.twoway_normal.proofs.Sizes.{system-most}
+use Rattle.twoway_type3.specs.Matrices.{leftHalf}
 use Rattle.twoway_type3.specs.Inner.{halfAt, inverseFrom, blockFrom, mostColumns}
-use Rattle.twoway_type3.specs.Normal.{normalSystem}
 use Rattle.twoway_type3.specs.declared.wald.Effect.{Effect}
 use Rattle.twoway_type3.specs.declared.wald.Solved.{Solved}
 use Rattle.twoway_type3.specs.Wald.{waldSum, blockOf, covInv, covSkips, waldSs}
-use Rattle.twoway_type3.specs.Answer.{crossProducts, beta, inverse, solvedSkips, allEffects}
-use Rattle.twoway_type3.proofs.Sizes.{system-most, inverse-most, block-most, system-rows, block-rows}
-use Rattle.twoway_type3.proofs.Halves.{half-part, length-places}
-use Rattle.twoway_type3.proofs.Lent.{length-part, part-of-taken, laid-length, laid-same, laid-taken, laid-before, laid-after}
+use Rattle.twoway_type3.specs.Answer.{crossProducts, beta, inverse, solvedSkips, effectsFrom}
+use Rattle.twoway_type3.proofs.Sizes.{inverse-most, block-most, system-rows, block-rows}
+use Rattle.twoway_type3.proofs.Halves.{half-part}
 
 pub half-length : (n from w : ℕ) (m : List Float) → length (leftHalf n from w m) ≡ n * (2 * n)
 unfolding leftHalf table
@@ -85,19 +87,20 @@ module _ (p s n : ℕ) (z : 0 < n) (few : n ≤ mostColumns) (inside : s + n ≤
   unfolding part
   wald-lent j k ej ek e f g = rw ek (wald-chain e (rw ek at f) (rw (ej, ek) at g))
 
--- the system is built and copied, solved and inverted
-module _ (values : List Float) (us vs : List ℕ) (a b : ℕ) (some : 0 < a * b) (most : a * b ≤ mostCells) where
-  pub solve-chain : (w₁ : List Float) {w₂ x₃ x₄ : List Float} {t₃ t₄ : Elimination}
-      → part 0 (a * b * (a * b + 1)) w₁ ≡ normalSystem values us vs a b
-      → length w₁ ≡ scratchPlaces
+-- the system m, in the first places of w₁, is copied, solved and inverted
+module _ (a b : ℕ) (some : 0 < a * b) (most : a * b ≤ mostCells) (w₁ : List Float) (long₁ : length w₁ ≡ scratchPlaces) where
+  abbrev m : List Float
+  m = part 0 (a * b * (a * b + 1)) w₁
+
+  pub solve-chain : {w₂ x₃ x₄ : List Float} {t₃ t₄ : Elimination}
       → w₂ ≡ within inverseFrom (a * b * (2 * (a * b))) (λ _. leftHalf (a * b) 0 (a * b + 1) w₁) w₁
       → (x₃, t₃) ≡ solveLinearSystem (a * b) (part 0 (a * b * (a * b + 1)) w₂)
       → (x₄, t₄) ≡ matrixInverse (a * b) (part inverseFrom (a * b * (2 * (a * b))) (laid 0 (a * b * (a * b + 1)) x₃ w₂))
-      → (part 0 (a * b * (a * b + 1)) (laid inverseFrom (a * b * (2 * (a * b))) x₄ (laid 0 (a * b * (a * b + 1)) x₃ w₂)) ≡ beta values us vs a b)
-      × (part inverseFrom (a * b * (2 * (a * b))) (laid inverseFrom (a * b * (2 * (a * b))) x₄ (laid 0 (a * b * (a * b + 1)) x₃ w₂)) ≡ inverse values us vs a b)
-      × (record { solver = t₃ .skipped; inverse = t₄ .skipped } ≡ solvedSkips values us vs a b)
+      → (part 0 (a * b * (a * b + 1)) (laid inverseFrom (a * b * (2 * (a * b))) x₄ (laid 0 (a * b * (a * b + 1)) x₃ w₂)) ≡ beta m a b)
+      × (part inverseFrom (a * b * (2 * (a * b))) (laid inverseFrom (a * b * (2 * (a * b))) x₄ (laid 0 (a * b * (a * b + 1)) x₃ w₂)) ≡ inverse m a b)
+      × (record { solver = t₃ .skipped; inverse = t₄ .skipped } ≡ solvedSkips m a b)
   unfolding beta inverse solvedSkips within
-  solve-chain w₁ {w₂} {x₃} {x₄} {t₃} {t₄} e₁ long₁ e₂ e₃ e₄ = (front, back, λ i. record { solver = solved i .1 .skipped; inverse = inverted i .1 .skipped })
+  solve-chain {w₂} {x₃} {x₄} {t₃} {t₄} e₂ e₃ e₄ = (front, back, λ i. record { solver = solved i .1 .skipped; inverse = inverted i .1 .skipped })
     where
       p : ℕ
       p = a * b
@@ -129,17 +132,13 @@ module _ (values : List Float) (us vs : List ℕ) (a b : ℕ) (some : 0 < a * b)
       room₂ : 0 + z ≤ length w₂
       room₂ = omega (arith, zs, long₂)
 
-      system : part 0 z w₂ ≡ normalSystem values us vs a b
-      system = ap (part 0 z) e₂ ∙ laid-before inverseFrom k h w₁ room₁ long-h 0 z (omega (arith, zs)) ∙ e₁
+      system : part 0 z w₂ ≡ m
+      system = ap (part 0 z) e₂ ∙ laid-before inverseFrom k h w₁ room₁ long-h 0 z (omega (arith, zs))
 
-      half : part inverseFrom k w₂ ≡ crossProducts values us vs a b
-      half =
-          ap (part inverseFrom k) e₂
-          ∙ laid-same inverseFrom k h w₁ room₁ long-h
-          ∙ half-part p 0 (p + 1) 0 z w₁ some (system-rows p)
-          ∙ ap (leftHalf p 0 (p + 1)) e₁
+      half : part inverseFrom k w₂ ≡ crossProducts m a b
+      half = ap (part inverseFrom k) e₂ ∙ laid-same inverseFrom k h w₁ room₁ long-h ∙ half-part p 0 (p + 1) 0 z w₁ some (system-rows p)
 
-      solved : (x₃, t₃) ≡ solveLinearSystem p (normalSystem values us vs a b)
+      solved : (x₃, t₃) ≡ solveLinearSystem p m
       solved = e₃ ∙ ap (solveLinearSystem p) system
 
       long-x₃ : length x₃ ≡ z
@@ -154,36 +153,34 @@ module _ (values : List Float) (us vs : List ℕ) (a b : ℕ) (some : 0 < a * b)
       room₃ : inverseFrom + k ≤ length w₃
       room₃ = omega (arith, ks, long₃)
 
-      inverted : (x₄, t₄) ≡ matrixInverse p (crossProducts values us vs a b)
+      inverted : (x₄, t₄) ≡ matrixInverse p (crossProducts m a b)
       inverted = e₄ ∙ ap (matrixInverse p) (laid-after 0 z x₃ w₂ room₂ long-x₃ inverseFrom k (omega (arith, zs)) ∙ half)
 
       long-x₄ : length x₄ ≡ k
       long-x₄ = ap (λ (y : List Float × Elimination). length (y .0)) e₄ ∙ inverse-length p (part inverseFrom k w₃) ∙ length-part inverseFrom k w₃ room₃
 
-      front : part 0 z (laid inverseFrom k x₄ w₃) ≡ solveLinearSystem p (normalSystem values us vs a b) .0
+      front : part 0 z (laid inverseFrom k x₄ w₃) ≡ solveLinearSystem p m .0
       front =
           laid-before inverseFrom k x₄ w₃ room₃ long-x₄ 0 z (omega (arith, zs))
           ∙ laid-same 0 z x₃ w₂ room₂ long-x₃
           ∙ ap (λ (y : List Float × Elimination). y .0) solved
 
-      back : part inverseFrom k (laid inverseFrom k x₄ w₃) ≡ matrixInverse p (crossProducts values us vs a b) .0
+      back : part inverseFrom k (laid inverseFrom k x₄ w₃) ≡ matrixInverse p (crossProducts m a b) .0
       back = laid-same inverseFrom k x₄ w₃ room₃ long-x₄ ∙ ap (λ (y : List Float × Elimination). y .0) inverted
 
   -- the same, where j and k are the lengths of the parts as the code works them out
-  pub solve-lent : (j k : ℕ) → j ≡ a * b * (a * b + 1) → k ≡ a * b * (2 * (a * b)) → (w₁ : List Float) {w₂ x₃ x₄ : List Float} {t₃ t₄ : Elimination}
-      → part 0 (a * b * (a * b + 1)) w₁ ≡ normalSystem values us vs a b
-      → length w₁ ≡ scratchPlaces
+  pub solve-lent : (j k : ℕ) → j ≡ a * b * (a * b + 1) → k ≡ a * b * (2 * (a * b)) → {w₂ x₃ x₄ : List Float} {t₃ t₄ : Elimination}
       → w₂ ≡ within inverseFrom (a * b * (2 * (a * b))) (λ _. leftHalf (a * b) 0 (a * b + 1) w₁) w₁
       → (x₃, t₃) ≡ solveLinearSystem (a * b) (take j (drop 0 w₂))
       → (x₄, t₄) ≡ matrixInverse (a * b) (take k (drop inverseFrom (laid 0 j x₃ w₂)))
-      → (part 0 (a * b * (a * b + 1)) (laid inverseFrom k x₄ (laid 0 j x₃ w₂)) ≡ beta values us vs a b)
-      × (part inverseFrom (a * b * (2 * (a * b))) (laid inverseFrom k x₄ (laid 0 j x₃ w₂)) ≡ inverse values us vs a b)
-      × (record { solver = t₃ .skipped; inverse = t₄ .skipped } ≡ solvedSkips values us vs a b)
+      → (part 0 (a * b * (a * b + 1)) (laid inverseFrom k x₄ (laid 0 j x₃ w₂)) ≡ beta m a b)
+      × (part inverseFrom (a * b * (2 * (a * b))) (laid inverseFrom k x₄ (laid 0 j x₃ w₂)) ≡ inverse m a b)
+      × (record { solver = t₃ .skipped; inverse = t₄ .skipped } ≡ solvedSkips m a b)
   unfolding part
-  solve-lent j k ej ek w₁ e₁ l₁ e₂ e₃ e₄ = rw (ej, ek) (solve-chain w₁ e₁ l₁ e₂ (rw ej at e₃) (rw (ej, ek) at e₄))
+  solve-lent j k ej ek e₂ e₃ e₄ = rw (ej, ek) (solve-chain e₂ (rw ej at e₃) (rw (ej, ek) at e₄))
 
 -- the three effects, one after another: each leaves the coefficients and the inverse as they were
-module _ (values : List Float) (us vs : List ℕ) (a b : ℕ) (most : a * b ≤ mostCells) where
+module _ (m : List Float) (a b : ℕ) (most : a * b ≤ mostCells) where
   abbrev pub front : List Float → List Float
   front w = part 0 (a * b * (a * b + 1)) w
 
@@ -191,7 +188,7 @@ module _ (values : List Float) (us vs : List ℕ) (a b : ℕ) (most : a * b ≤ 
   back w = part inverseFrom (a * b * (2 * (a * b))) w
 
   abbrev pub Ready : List Float → Type 0
-  Ready w = (front w ≡ beta values us vs a b) × (back w ≡ inverse values us vs a b)
+  Ready w = (front w ≡ beta m a b) × (back w ≡ inverse m a b)
 
   still : (v w : List Float) → Ready v → take blockFrom w ≡ take blockFrom v → Ready w
   still v w r e = (
@@ -199,13 +196,13 @@ module _ (values : List Float) (us vs : List ℕ) (a b : ℕ) (most : a * b ≤ 
     part-of-taken inverseFrom (a * b * (2 * (a * b))) blockFrom w v (omega (arith, inverse-most (a * b) most)) e ∙ r .1,
   )
 
-  one : (s n : ℕ) (w : List Float) {r : Effect} → Ready w → r ≡ waldSs (a * b) s n (front w) (back w) → r ≡ waldSs (a * b) s n (beta values us vs a b) (inverse values us vs a b)
+  one : (s n : ℕ) (w : List Float) {r : Effect} → Ready w → r ≡ waldSs (a * b) s n (front w) (back w) → r ≡ waldSs (a * b) s n (beta m a b) (inverse m a b)
   one s n w r e = e ∙ rw (r .0, r .1)
 
   abbrev pub Wald : ℕ → ℕ → Effect → List Float → List Float → Type 0
   Wald s n r v w = (r ≡ waldSs (a * b) s n (front v) (back v)) × (take blockFrom w ≡ take blockFrom v)
 
-  pub effects-chain : (w₁ w₂ w₃ w₄ : List Float) {q : Solved} {r₁ r₂ r₃ : Effect} → Ready w₁ → q ≡ solvedSkips values us vs a b
+  pub effects-chain : (w₁ w₂ w₃ w₄ : List Float) {q : Solved} {r₁ r₂ r₃ : Effect} → Ready w₁ → q ≡ solvedSkips m a b
       → Wald 1 (a - 1) r₁ w₁ w₂
       → Wald a (b - 1) r₂ w₂ w₃
       → Wald (a + (b - 1)) ((a - 1) * (b - 1)) r₃ w₃ w₄
@@ -215,8 +212,8 @@ module _ (values : List Float) (us vs : List ℕ) (a b : ℕ) (most : a * b ≤ 
         «ss_ab» = r₃ .ss;
         skips = record { solver = q .solver; inverse = q .inverse; «block_a» = r₁ .skipped; «block_b» = r₂ .skipped; «block_ab» = r₃ .skipped };
       }
-      ≡ allEffects values us vs a b
-  unfolding allEffects
+      ≡ effectsFrom m a b
+  unfolding effectsFrom
   effects-chain w₁ w₂ w₃ w₄ r d e f g =
       let r₂ = still w₁ w₂ r (e .1) in
       let r₃ = still w₂ w₃ r₂ (f .1) in

@@ -13,14 +13,12 @@ use Rattle.matrix_linear.specs.Rows.{room}
 use Rattle.matrix_linear.specs.Skips.{takenWith}
 use Rattle.matrix_linear.specs.System.{forward, skippedCount, backward, solveLinearSystem}
 use Rattle.matrix_linear.specs.Inverse.{unit, fullColumns, skippedInverseCount, matrixInverse}
+use Rattle.twoway_normal.proofs.Sizes.{cells-most}
 use Rattle.twoway_type3.specs.Answer.{crossProducts, beta, inverse, solvedSkips}
 use Rattle.twoway_type3.specs.Inner.{mostColumns}
-use Rattle.twoway_type3.specs.Matrices.{leftHalf, table}
-use Rattle.twoway_type3.specs.Normal.{normalSystem}
+use Rattle.twoway_type3.specs.Matrices.{leftHalf}
 use Rattle.twoway_type3.specs.Wald.{blockOf, covInv, covSkips}
 use Rattle.twoway_type3.proofs.Chains.{half-length}
-use Rattle.twoway_type3.proofs.Halves.{length-places}
-use Rattle.twoway_type3.proofs.Sizes.{cells-most}
 
 -- as many rows as may be, in as many places as they take
 room-there : (n w : ℕ) (m : List Float) → n ≤ mostCells → length m ≡ n * w → room n w m ≡ true
@@ -37,29 +35,26 @@ inverse-worked : (n from w : ℕ) (m : List Float) → n ≤ mostCells
 unfolding matrixInverse
 inverse-worked n from w m h = rw (room-there n (2 * n) (leftHalf n from w m) h (half-length n from w m))
 
-module _ (values : List Float) (us vs : List ℕ) (a b : ℕ) (most-a : a ≤ mostLevels) (most-b : b ≤ mostLevels) where
-  system-length : length (normalSystem values us vs a b) ≡ a * b * (a * b + 1)
-  unfolding normalSystem table
-  system-length = length-places 0 (a * b * (a * b + 1)) _
+-- a and b levels; m is a system of as many places as theirs
+module _ (m : List Float) (a b : ℕ) (most-a : a ≤ mostLevels) (most-b : b ≤ mostLevels) (whole : length m ≡ a * b * (a * b + 1)) where
+  solved : solveLinearSystem (a * b) m ≡ (backward (a * b) (forward (a * b) (a * b + 1) m), takenWith (skippedCount (a * b) (a * b + 1) m))
+  solved = system-worked (a * b) m (cells-most a b most-a most-b) whole
 
-  solved : solveLinearSystem (a * b) (normalSystem values us vs a b) ≡ (backward (a * b) (forward (a * b) (a * b + 1) (normalSystem values us vs a b)), takenWith (skippedCount (a * b) (a * b + 1) (normalSystem values us vs a b)))
-  solved = system-worked (a * b) (normalSystem values us vs a b) (cells-most a b most-a most-b) system-length
-
-  inverted : matrixInverse (a * b) (crossProducts values us vs a b) ≡ (fullColumns (a * b) (2 * (a * b)) (unit (a * b) (crossProducts values us vs a b)), takenWith (skippedInverseCount (a * b) (crossProducts values us vs a b)))
-  inverted = inverse-worked (a * b) 0 (a * b + 1) (normalSystem values us vs a b) (cells-most a b most-a most-b)
+  inverted : matrixInverse (a * b) (crossProducts m a b) ≡ (fullColumns (a * b) (2 * (a * b)) (unit (a * b) (crossProducts m a b)), takenWith (skippedInverseCount (a * b) (crossProducts m a b)))
+  inverted = inverse-worked (a * b) 0 (a * b + 1) m (cells-most a b most-a most-b)
 
   -- the coefficients come from elimination and back substitution
-  pub beta-there : beta values us vs a b ≡ backward (a * b) (forward (a * b) (a * b + 1) (normalSystem values us vs a b))
+  pub beta-there : beta m a b ≡ backward (a * b) (forward (a * b) (a * b + 1) m)
   unfolding beta
   beta-there = ap (λ (x : List Float × Elimination). x .0) solved
 
   -- the inverse of X'X from Gauss and Jordan
-  pub inverse-there : inverse values us vs a b ≡ fullColumns (a * b) (2 * (a * b)) (unit (a * b) (crossProducts values us vs a b))
+  pub inverse-there : inverse m a b ≡ fullColumns (a * b) (2 * (a * b)) (unit (a * b) (crossProducts m a b))
   unfolding inverse
   inverse-there = ap (λ (x : List Float × Elimination). x .0) inverted
 
   -- and the counts of both from their matrices
-  pub skips-there : solvedSkips values us vs a b ≡ record { solver = skippedCount (a * b) (a * b + 1) (normalSystem values us vs a b); inverse = skippedInverseCount (a * b) (crossProducts values us vs a b) }
+  pub skips-there : solvedSkips m a b ≡ record { solver = skippedCount (a * b) (a * b + 1) m; inverse = skippedInverseCount (a * b) (crossProducts m a b) }
   unfolding solvedSkips
   skips-there = rw (solved, inverted)
 

@@ -1,5 +1,5 @@
 -- A block copied to the left half of rows: the walk over the rows, and what it reads.
-use Prim.Native.Nat.{ℕ, zero, suc, _+_, _-_, _*_, _/_, _%_, _<_, _≤_}
+use Prim.Native.Nat.{ℕ, suc, _+_, _-_, _*_, _/_, _%_, _<_, _≤_}
 use mathlib.Core.Path.{_≡_, refl, sym, ap, _∙_}
 use mathlib.Core.Bool.{Bool, true, false}
 use mathlib.Core.List.{List, _++_, append-assoc}
@@ -18,22 +18,14 @@ use Rattle.base.proofs.Walks.{walks}
 use Rattle.matrix_linear.specs.Inverse.{zeroAt}
 use Rattle.matrix_linear.specs.Rows.{at}
 use Rattle.float.specs.Words.{plusZero}
-use Rattle.twoway_type3.proofs.Lent.{part-at}
-use Rattle.twoway_type3.specs.Matrices.{places, table, halfOf, leftHalf}
+use Rattle.twoway_normal.specs.Tables.{places, table}
+use Rattle.twoway_normal.proofs.Entries.{length-places, same-places}
+use Rattle.twoway_normal.proofs.Lent.{part-at}
+use Rattle.twoway_normal.proofs.Ways.{row-of, column-of}
+use Rattle.twoway_type3.specs.Matrices.{halfOf, leftHalf}
 use Rattle.twoway_type3.specs.Inner.{halfAt, copyAt, halfRow, halfStep}
-use Rattle.twoway_type3.proofs.Ways.{row-of, column-of}
 
 module _ {A : Type 0} where
-  pub length-places : (q k : ℕ) (f : ℕ → A) → length (places q k f) ≡ k
-  unfolding places
-  length-places q zero f = refl
-  length-places q (suc k) f = ap suc (length-places (q + 1) k f)
-
-  pub same-places : (q k : ℕ) (f g : ℕ → A) → ((j : ℕ) → j < q + k → f j ≡ g j) → places q k f ≡ places q k g
-  unfolding places
-  same-places q zero f g e = refl
-  same-places q (suc k) f g e = rw (e q (omega arith), same-places (q + 1) k f g (λ j l. e j (omega arith)))
-
   -- from place `to` on, what is still to be put is f at q, at q + 1, .. up to n
   module _ (f : ℕ → A) (to n : ℕ) where
     abbrev putting : List A → ℕ → List A

@@ -4,26 +4,27 @@ use mathlib.Core.Bool.{cond}
 use mathlib.Core.List.{List}
 use lib.ListN.{length}
 use lib.Ieee.{Float}
+use Rattle.lent.specs.Wiping.{wiped}
 use Rattle.matrix_linear.specs.System.{solveLinearSystem}
 use Rattle.matrix_linear.specs.Inverse.{matrixInverse}
-use Rattle.twoway_type3.specs.Shape.{fits}
-use Rattle.lent.specs.Wiping.{wiped}
+use Rattle.results.specs.declared.Effects.{Effects}
+use Rattle.results.specs.Effects.{noEffects}
+use Rattle.twoway_normal.specs.Normal.{normalSystem}
+use Rattle.twoway_normal.specs.Shape.{fits}
 use Rattle.twoway_type3.specs.Matrices.{leftHalf}
-use Rattle.twoway_type3.specs.Normal.{normalSystem}
 use Rattle.twoway_type3.specs.Wald.{waldSs}
 use Rattle.twoway_type3.specs.declared.wald.Effect.{Effect}
 use Rattle.twoway_type3.specs.declared.wald.Solved.{Solved}
-use Rattle.results.specs.declared.Effects.{Effects}
-use Rattle.results.specs.Effects.{noEffects}
 
-module _ (values : List Float) (us vs : List ℕ) (a b : ℕ) where
+-- a and b levels; m is the system of the normal equations
+module _ (m : List Float) (a b : ℕ) where
   -- X'X, the left of the system, on the left of the rows for its inverse
   abbrev pub crossProducts : List Float
-  crossProducts = leftHalf (a * b) 0 (a * b + 1) (normalSystem values us vs a b)
+  crossProducts = leftHalf (a * b) 0 (a * b + 1) m
 
   -- the coefficients: the last column of the solved system
   unfoldable pub beta : List Float
-  beta = solveLinearSystem (a * b) (normalSystem values us vs a b) .0
+  beta = solveLinearSystem (a * b) m .0
 
   -- the inverse of X'X, on the right of its rows
   unfoldable pub inverse : List Float
@@ -31,7 +32,7 @@ module _ (values : List Float) (us vs : List ℕ) (a b : ℕ) where
 
   -- how many columns the solver skipped, and the inverse
   unfoldable pub solvedSkips : Solved
-  solvedSkips = record { solver = solveLinearSystem (a * b) (normalSystem values us vs a b) .1 .skipped; inverse = matrixInverse (a * b) crossProducts .1 .skipped }
+  solvedSkips = record { solver = solveLinearSystem (a * b) m .1 .skipped; inverse = matrixInverse (a * b) crossProducts .1 .skipped }
 
   -- the effect with the n columns from s on
   abbrev pub effect : ℕ → ℕ → Effect
@@ -48,13 +49,17 @@ module _ (values : List Float) (us vs : List ℕ) (a b : ℕ) where
   effectAb = effect (a + (b - 1)) ((a - 1) * (b - 1))
 
   -- their sums of squares, and what each elimination skipped, in the order in which they are made
-  unfoldable pub allEffects : Effects
-  allEffects = record {
+  unfoldable pub effectsFrom : Effects
+  effectsFrom = record {
     «ss_a» = effectA .ss;
     «ss_b» = effectB .ss;
     «ss_ab» = effectAb .ss;
     skips = record { solver = solvedSkips .solver; inverse = solvedSkips .inverse; «block_a» = effectA .skipped; «block_b» = effectB .skipped; «block_ab» = effectAb .skipped };
   }
+
+-- of readings with codes
+abbrev pub allEffects : List Float → List ℕ → List ℕ → ℕ → ℕ → Effects
+allEffects values us vs a b = effectsFrom (normalSystem values us vs a b) a b
 
 -- the memory after the call, and the sums of squares
 unfoldable pub type3Ss : List Float → List ℕ → List ℕ → ℕ → ℕ → List Float → List Float × Effects

@@ -1,9 +1,5 @@
 // Type III sums of squares of an unbalanced two-way design, in memory that the caller lends.
-mod codes;
-mod counts;
 mod half;
-mod normal;
-mod shape;
 mod wald;
 
 use results::Effects;
@@ -22,24 +18,10 @@ pub fn type3_ss(
 ) -> Effects
     ensures { λ r. ⌜ (now (work .exit), r) ≡ type3Ss (now (values .entry)) (now («factor_a» .entry)) (now («factor_b» .entry)) a b (now (work .entry)) ⌝ }
 {
-    if !shape::fits(
-        values.len(),
-        factor_a.len(),
-        factor_b.len(),
-        a,
-        b,
-        work.len(),
-    ) {
-        return results::no_effects();
+    if twoway_normal::normal_equations(values, factor_a, factor_b, a, b, work) {
+        let e = wald::all_effects(a, b, &mut work[0..base::SCRATCH_PLACES]);
+        lent::wipe(work);
+        return e;
     }
-    let e = wald::all_effects(
-        values,
-        factor_a,
-        factor_b,
-        a,
-        b,
-        &mut work[0..base::SCRATCH_PLACES],
-    );
-    lent::wipe(work);
-    e
+    results::no_effects()
 }

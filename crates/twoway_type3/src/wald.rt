@@ -1,19 +1,18 @@
 // The sums of squares of the effects, from the coefficients and the inverse of X'X.
 use crate::half::left_half;
-use crate::normal::normal_system;
 use results::Effects;
 use results::Skips;
 ghost use mathlib.Core.Path.{_≡_};
 ghost use Prim.Native.Nat.{_+_, _*_, _≤_, _<_};
 ghost use lib.ListN.{length, take};
-ghost use Rattle.base.specs.Limits.{mostCells, scratchPlaces};
+ghost use Rattle.base.specs.Limits.{mostCells, mostLevels, scratchPlaces};
 ghost use Rattle.base.specs.Lists.{part};
-ghost use Rattle.twoway_type3.specs.Inner.{Fitting, inverseFrom, blockFrom, mostColumns};
+ghost use Rattle.twoway_type3.specs.Inner.{inverseFrom, blockFrom, mostColumns};
 ghost use Rattle.twoway_type3.specs.Wald.{waldRow, waldSum, waldSs};
-ghost use Rattle.twoway_type3.specs.Answer.{beta, inverse, solvedSkips, allEffects};
+ghost use Rattle.twoway_type3.specs.Answer.{beta, inverse, solvedSkips, effectsFrom};
 
-// Where the inverse of X'X lies, behind the system, once the rows of the cells are done with; and where an effect's block lies, behind both.
-const INVERSE: usize = crate::normal::ROWS;
+// Where the inverse of X'X lies, behind the system; and where an effect's block lies, behind both.
+const INVERSE: usize = base::MOST_CELLS * (base::MOST_CELLS + 1);
 
 const BLOCK: usize = INVERSE + base::MOST_CELLS * (2 * base::MOST_CELLS);
 
@@ -67,22 +66,14 @@ fn wald_ss(work: &mut [f64], p: usize, s: usize, n: usize) -> Effect
     }
 }
 
-// The coefficients, in the last column of the system, and behind it the inverse of X'X, on the right of its rows.
-fn solve(
-    values: &[f64],
-    factor_a: &[u32],
-    factor_b: &[u32],
-    a: usize,
-    b: usize,
-    work: &mut [f64],
-) -> Solved
-    requires { ⌜ Fitting (now values) (now «factor_a») (now «factor_b») a b × (length (now work) ≡ scratchPlaces) ⌝ }
-    ensures { λ r. ⌜ (part 0 (a * b * (a * b + 1)) (now (work .exit)) ≡ beta (now (values .entry)) (now («factor_a» .entry)) (now («factor_b» .entry)) a b) × (part inverseFrom (a * b * (2 * (a * b))) (now (work .exit)) ≡ inverse (now (values .entry)) (now («factor_a» .entry)) (now («factor_b» .entry)) a b) × (r ≡ solvedSkips (now (values .entry)) (now («factor_a» .entry)) (now («factor_b» .entry)) a b) ⌝ }
+// The system in the first places is solved: the coefficients come to its last column, and behind it the inverse of X'X, on the right of its rows.
+fn solve(a: usize, b: usize, work: &mut [f64]) -> Solved
+    requires { ⌜ (2 ≤ a) × (a ≤ mostLevels) × (2 ≤ b) × (b ≤ mostLevels) × (length (now work) ≡ scratchPlaces) ⌝ }
+    ensures { λ r. ⌜ (part 0 (a * b * (a * b + 1)) (now (work .exit)) ≡ beta (part 0 (a * b * (a * b + 1)) (now (work .entry))) a b) × (part inverseFrom (a * b * (2 * (a * b))) (now (work .exit)) ≡ inverse (part 0 (a * b * (a * b + 1)) (now (work .entry))) a b) × (r ≡ solvedSkips (part 0 (a * b * (a * b + 1)) (now (work .entry))) a b) ⌝ }
 {
     let p = a * b;
     let z = p * (p + 1);
     let end = INVERSE + p * (2 * p);
-    normal_system(values, factor_a, factor_b, a, b, work);
     left_half(work, INVERSE, p, 0, p + 1);
     let solved = matrix_linear::solve_linear_system(&mut work[0..z], p);
     let inverted = matrix_linear::matrix_inverse(&mut work[INVERSE..end], p);
@@ -92,18 +83,12 @@ fn solve(
     }
 }
 
-pub fn all_effects(
-    values: &[f64],
-    factor_a: &[u32],
-    factor_b: &[u32],
-    a: usize,
-    b: usize,
-    work: &mut [f64],
-) -> Effects
-    requires { ⌜ Fitting (now values) (now «factor_a») (now «factor_b») a b × (length (now work) ≡ scratchPlaces) ⌝ }
-    ensures { λ r. ⌜ r ≡ allEffects (now (values .entry)) (now («factor_a» .entry)) (now («factor_b» .entry)) a b ⌝ }
+// The effects, from the system in the first places.
+pub fn all_effects(a: usize, b: usize, work: &mut [f64]) -> Effects
+    requires { ⌜ (2 ≤ a) × (a ≤ mostLevels) × (2 ≤ b) × (b ≤ mostLevels) × (length (now work) ≡ scratchPlaces) ⌝ }
+    ensures { λ r. ⌜ r ≡ effectsFrom (part 0 (a * b * (a * b + 1)) (now (work .entry))) a b ⌝ }
 {
-    let solved = solve(values, factor_a, factor_b, a, b, work);
+    let solved = solve(a, b, work);
     let p = a * b;
     let of_a = wald_ss(work, p, 1, a - 1);
     let of_b = wald_ss(work, p, a, b - 1);

@@ -38,12 +38,13 @@ use Rattle.matrix_linear.specs.Rows.{swapRows, better, pivotRow, pivoted, clear
 use Rattle.matrix_linear.specs.System.{cleared, column, forward, backSum, backValue, backRow, backward, solveLinearSystem}
 use Rattle.matrix_linear.specs.Inverse.{zeroRight, unitRow, unit, clearOther, clearOthers, scaled, reduced, fullColumn, fullColumns, matrixInverse}
 use Rattle.lent.specs.Wiping.{zeros as lentZeros}
-use Rattle.twoway_type3.specs.Coding.{effectCode, codesFrom, productsOf, products, designRow}
-use Rattle.twoway_type3.specs.Matrices.{places, table, halfOf, leftHalf}
-use Rattle.twoway_type3.specs.Normal.{rowOf, normalAt, normalSystem}
+use Rattle.twoway_normal.specs.Coding.{effectCode, codesFrom, productsOf, products, designRow}
+use Rattle.twoway_normal.specs.Tables.{places, table}
+use Rattle.twoway_normal.specs.Normal.{rowOf, normalAt, normalSystem}
+use Rattle.twoway_normal.specs.Shape.{factorFits, fits as type3Fits}
+use Rattle.twoway_type3.specs.Matrices.{halfOf, leftHalf}
 use Rattle.twoway_type3.specs.Wald.{waldRow, waldSum, covInv, covSkips}
-use Rattle.twoway_type3.specs.Shape.{factorFits, fits as type3Fits}
-use Rattle.twoway_type3.specs.Answer.{beta, inverse, solvedSkips, allEffects, type3Ss}
+use Rattle.twoway_type3.specs.Answer.{beta, inverse, solvedSkips, effectsFrom, type3Ss}
 use Rattle.repeated_checks.specs.Checks.{designRefusal, subjectFault, repeatedRefusal}
 use Rattle.repeated_grid.specs.Table.{noSubjects, noConditions, subjectMeans, conditionSum, conditionMeans, ssTotal, ssSubjects, ssConditions}
 use Rattle.matrix_places.specs.Places.{refuses, dot, lessRow, overRow}
@@ -285,5 +286,5 @@ abbrev given : Line → List ℕ
 given l = l .1
 
 pub worked : map asked lines ≡ map given lines
-unfolding answer refusedResult type3Ss factorFits type3Fits allEffects beta inverse solvedSkips waldRow waldSum covInv covSkips pivotSkips beforeColumn skippedIn skippedOf rowOf normalAt normalSystem places table halfOf leftHalf effectCode codesFrom productsOf products designRow lentZeros zeroRight unitRow unit clearOther clearOthers scaled reduced fullColumn fullColumns matrixInverse cleared column forward backSum backValue backRow backward solveLinearSystem swapRows better pivotRow pivoted clearRow clearBelow repeatedMeasuresAnova repeatedAnswer repeatedRefusal designRefusal firstFault subjectFault noSubjects noConditions subjectMeans conditionSum conditionMeans ssTotal ssSubjects ssConditions part computeSphericityCorrections correctionsOf cscHere ggOf values ggRaw epsilonGg hfRaw usable epsilonHf trace meanTrace det wRaw mauchlyW dfW matrixDeterminant detOf twoByTwo absOf isFinite leastOf greatestOf clampOf powerFrom powerOf contrastCovariance fits throughContrasts orthonormalContrasts contrasts contrastRows contrastRow covMatrix covRows covRow noCovariances covariance covSum computeEigenvalues diagonal rounds round qrHere zeros qrColumns qrColumn remains normalize newColumn putColumn projections project lessColumn columnOf blankColumn matrixMultiplyCsc csc blank product productRow orthonormalize orthonormalRows orthonormalRow normalizeRow projectRows projectRow overRow lessRow refuses dot lent twoWayAnova squaresOf answerOf twoWayRefusal shapeRefusal levelsRefusal cellsRefusal largest cells cell numbers tallyLine listed noLevels noCells margins cellMeans ssError unlike otherCount meanLine meanMargins abRow ssAb balancedSs balanceRefusal studyRefusal componentOf componentsOf gaugeStudy loop turns oneWayAnova anova fisherAnova welchAnova noSizes noMeans oneWayRefusal sizesRefusal groupFault guarded total cut some sumBy sqrtOf ofBits toBits add sub mul div neg lt ofInt isNan
+unfolding answer refusedResult type3Ss factorFits type3Fits effectsFrom beta inverse solvedSkips waldRow waldSum covInv covSkips pivotSkips beforeColumn skippedIn skippedOf rowOf normalAt normalSystem places table halfOf leftHalf effectCode codesFrom productsOf products designRow lentZeros zeroRight unitRow unit clearOther clearOthers scaled reduced fullColumn fullColumns matrixInverse cleared column forward backSum backValue backRow backward solveLinearSystem swapRows better pivotRow pivoted clearRow clearBelow repeatedMeasuresAnova repeatedAnswer repeatedRefusal designRefusal firstFault subjectFault noSubjects noConditions subjectMeans conditionSum conditionMeans ssTotal ssSubjects ssConditions part computeSphericityCorrections correctionsOf cscHere ggOf values ggRaw epsilonGg hfRaw usable epsilonHf trace meanTrace det wRaw mauchlyW dfW matrixDeterminant detOf twoByTwo absOf isFinite leastOf greatestOf clampOf powerFrom powerOf contrastCovariance fits throughContrasts orthonormalContrasts contrasts contrastRows contrastRow covMatrix covRows covRow noCovariances covariance covSum computeEigenvalues diagonal rounds round qrHere zeros qrColumns qrColumn remains normalize newColumn putColumn projections project lessColumn columnOf blankColumn matrixMultiplyCsc csc blank product productRow orthonormalize orthonormalRows orthonormalRow normalizeRow projectRows projectRow overRow lessRow refuses dot lent twoWayAnova squaresOf answerOf twoWayRefusal shapeRefusal levelsRefusal cellsRefusal largest cells cell numbers tallyLine listed noLevels noCells margins cellMeans ssError unlike otherCount meanLine meanMargins abRow ssAb balancedSs balanceRefusal studyRefusal componentOf componentsOf gaugeStudy loop turns oneWayAnova anova fisherAnova welchAnova noSizes noMeans oneWayRefusal sizesRefusal groupFault guarded total cut some sumBy sqrtOf ofBits toBits add sub mul div neg lt ofInt isNan
 worked = refl

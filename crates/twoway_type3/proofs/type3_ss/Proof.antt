@@ -1,29 +1,38 @@
--- Where the sizes fit, the effects are worked out in the first 6,400 places, and the wipe leaves no trace of that; where they do not, nothing is touched.
+-- Where the sizes fit, the normal equations and the effects are worked out in the first 6,400 places, and the wipe leaves no trace of that; where they do not, nothing is touched.
 use Prim.Native.Nat.{_≤_}
-use mathlib.Core.Path.{sym, _∙_}
+use mathlib.Core.Path.{_≡_, _∙_}
 use native.Mathlib.Omega.{arith}
 use borrow.Author.Needs.{needs}
+use mathlib.Core.List.{List}
 use lib.ListN.{length}
-use borrow.Author.Tests.{not-true, not-false}
+use lib.Ieee.{Float}
 use Rattle.base.proofs.Parts.{length-part}
 use Rattle.base.specs.Limits.{scratchPlaces}
-use Rattle.twoway_type3.specs.Inner.{Fitting}
-use Rattle.twoway_type3.proofs.Fitted.{fitting}
+use Rattle.twoway_normal.specs.Inner.{Fitting}
+use Rattle.twoway_normal.proofs.Laid.{equations-taken}
 use Rattle.twoway_type3.proofs.Answers.{not-taken, taken}
 use Rattle.twoway_type3.proofs.type3_ss.Statement.{statement}
 use Rattle.twoway_type3.proofs.type3_ss.Tie as tie
 
-known : (c : tie.Else1) → let s = c .before .before .before .before .before .before in Fitting (s .args .values .now) (s .args .factor-a .now) (s .args .factor-b .now) (s .args .a) (s .args .b) × (scratchPlaces ≤ length (s .args .work .now))
-known c = fitting _ _ _ _ _ _ (sym (c .before .fits2 .ensures) ∙ not-false _ (c .if1 .left))
+-- where the normal equations were laid: the call, and the start
+abbrev asked : tie.Then1 → tie.After-normal-equations
+asked c = c .before .before .before
 
-fits-requires : tie.Need-fits-requires
-fits-requires c κs = search needs
+abbrev start : tie.After-normal-equations → tie.Start
+start c = c .before .before .before .before .before .before
 
-no-effects-requires : tie.Need-no-effects-requires
-no-effects-requires c κs = search needs
+fitted : (c : tie.Then1) → (let s = start (asked c) in Fitting (s .args .values .now) (s .args .factor-a .now) (s .args .factor-b .now) (s .args .a) (s .args .b) × (scratchPlaces ≤ length (s .args .work .now)))
+fitted c = let k = equations-taken _ _ _ _ _ _ (asked c .normal-equations .ensures) (c .if1 .taken) in (k .0, k .1)
 
-returns : tie.Need-returns
-returns c = not-taken _ _ _ _ _ _ (c .no-effects .ensures) (sym (c .before .before .fits2 .ensures) ∙ not-true _ (c .before .if1 .taken))
+-- the memory is as long as it was, so there are 6,400 places
+abbrev memory : tie.Then1 → List Float
+memory c = asked c .normal-equations .last .1 .1 .1 .1 .1 .0
+
+room : (c : tie.Then1) → scratchPlaces ≤ length (memory c)
+room c = omega (arith, fitted c .1)
+
+normal-equations-requires : tie.Need-normal-equations-requires
+normal-equations-requires c κs = search needs
 
 sub-all-effects : tie.Need-sub-all-effects
 sub-all-effects c = omega arith
@@ -32,12 +41,12 @@ part-all-effects-start : tie.Need-part-all-effects-start
 part-all-effects-start c = omega arith
 
 part-all-effects-end : tie.Need-part-all-effects-end
-part-all-effects-end c = known c .1
+part-all-effects-end c = room c
 
 all-effects-requires : tie.Need-all-effects-requires
 all-effects-requires c κs =
-    let k = known (c .before) in
-    (k .0, length-part 0 6400 (c .before .before .before .before .before .before .before .args .work .now) (k .1))
+    let f = fitted (c .before) .0 in
+    (f .least-a, f .most-a, f .least-b, f .most-b, length-part 0 6400 (memory (c .before)) (room (c .before)))
 
 wipe-requires : tie.Need-wipe-requires
 wipe-requires c κs = search needs
@@ -45,24 +54,37 @@ wipe-requires c κs = search needs
 same-length : tie.Need-same-length
 same-length c = search needs
 
+returns : tie.Need-returns
+returns c =
+    let wiped = c .before .before in
+    let worked = wiped .before .before .before .before in
+    let then = worked .before .before in
+    let a = asked then in
+    taken _ _ _ _ _ _ (a .normal-equations .ensures) (worked .all-effects .last .1 .1 .0) (then .if1 .taken) (worked .all-effects .kept .1 .1 .0 ∙ length-part 0 6400 (memory then) (room then)) (worked .all-effects .ensures) (wiped .wipe .ensures)
+
+no-effects-requires : tie.Need-no-effects-requires
+no-effects-requires c κs = search needs
+
+same-length-2 : tie.Need-same-length-2
+same-length-2 c = search needs
+
 returns-2 : tie.Need-returns-2
-returns-2 c = let m = c .before .before .before .before .before .before in
-    let o = m .before .before in
-    let s = o .before .before .before .before .before .before in
-    let k = known o in
-    taken (s .args .values .now) (s .args .factor-a .now) (s .args .factor-b .now) (s .args .a) (s .args .b) (s .args .work .now) (m .all-effects .last .1 .1 .1 .1 .1 .0) (sym (o .before .fits2 .ensures) ∙ not-false _ (o .if1 .left)) (m .all-effects .kept .1 .1 .1 .1 .1 .0 ∙ length-part 0 6400 (s .args .work .now) (k .1)) (k .1) (m .all-effects .ensures) (c .before .before .wipe .ensures)
+returns-2 c =
+    let else = c .before in
+    not-taken _ _ _ _ _ _ (else .before .before .before .normal-equations .ensures) (else .if1 .left) (c .no-effects .ensures)
 
 pub type3-ss-spec : {M : Type 1} → statement M
 type3-ss-spec =
     tie.close
     (tie.spec
-    fits-requires
-    no-effects-requires
-    returns
+    normal-equations-requires
     sub-all-effects
     part-all-effects-start
     part-all-effects-end
     all-effects-requires
     wipe-requires
     same-length
+    returns
+    no-effects-requires
+    same-length-2
     returns-2)

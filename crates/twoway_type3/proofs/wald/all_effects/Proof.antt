@@ -4,7 +4,7 @@ use native.Mathlib.Omega.{arith}
 use borrow.Author.Needs.{needs}
 use Rattle.base.specs.Limits.{mostCells}
 use Rattle.twoway_type3.proofs.Chains.{effects-chain}
-use Rattle.twoway_type3.proofs.Sizes.{Interaction, cells-most, columns}
+use Rattle.twoway_normal.proofs.Sizes.{Interaction, cells-most, columns}
 use Rattle.twoway_type3.proofs.wald.all_effects.Statement.{statement}
 use Rattle.twoway_type3.proofs.wald.all_effects.Tie as tie
 
@@ -13,7 +13,7 @@ solve-requires c κs = search needs
 
 -- the start, seen from where each effect is asked for
 abbrev at-a : (c : tie.After-wald-ss-arg) → tie.Start
-at-a c = c .before .before .before .before .before .before .before .before .before
+at-a c = c .before .before .before .before .before .before
 
 abbrev at-b : (c : tie.After-wald-ss-arg2) → tie.Start
 at-b c = at-a (c .before .before .before .before)
@@ -23,15 +23,15 @@ at-ab c = at-b (c .before .before .before .before)
 
 -- what is known there of the design's columns, and of the interaction's
 all-columns : (s : tie.Start) → s .args .a * s .args .b ≤ mostCells
-all-columns s = let f = s .pre .0 in cells-most (s .args .a) (s .args .b) (f .most-a) (f .most-b)
+all-columns s = cells-most (s .args .a) (s .args .b) (s .pre .1) (s .pre .3)
 
 interaction : (s : tie.Start) → Interaction (s .args .a) (s .args .b)
-interaction s = let f = s .pre .0 in columns (s .args .a) (s .args .b) (f .least-a) (f .most-a) (f .least-b) (f .most-b)
+interaction s = columns (s .args .a) (s .args .b) (s .pre .0) (s .pre .1) (s .pre .2) (s .pre .3)
 
 mul-p : tie.Need-mul-p
 mul-p c =
     let at-solve = c .before .before in
-    omega (arith, all-columns (at-solve .before .before .before .before .before .before))
+    omega (arith, all-columns (at-solve .before .before .before))
 
 sub-wald-ss : tie.Need-sub-wald-ss
 sub-wald-ss c = omega arith
@@ -79,7 +79,7 @@ returns c =
     let at-first = at-second .before .before .before .before in
     let at-solve = at-first .before .before .before .before in
     let s = at-a (at-first .before) in
-    effects-chain (s .args .values .now) (s .args .factor-a .now) (s .args .factor-b .now) (s .args .a) (s .args .b) (all-columns s) (at-solve .solve .last .1 .1 .1 .1 .1 .0) (at-first .wald-ss .last .0) (at-second .wald-ss2 .last .0) (at-third .wald-ss3 .last .0) (at-solve .solve .ensures .0, at-solve .solve .ensures .1) (at-solve .solve .ensures .2) (at-first .wald-ss .ensures) (at-second .wald-ss2 .ensures) (at-third .wald-ss3 .ensures)
+    effects-chain _ (s .args .a) (s .args .b) (all-columns s) (at-solve .solve .last .1 .1 .0) (at-first .wald-ss .last .0) (at-second .wald-ss2 .last .0) (at-third .wald-ss3 .last .0) (at-solve .solve .ensures .0, at-solve .solve .ensures .1) (at-solve .solve .ensures .2) (at-first .wald-ss .ensures) (at-second .wald-ss2 .ensures) (at-third .wald-ss3 .ensures)
 
 pub all-effects-spec : {M : Type 1} → statement M
 all-effects-spec =

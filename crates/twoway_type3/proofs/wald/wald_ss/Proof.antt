@@ -4,7 +4,8 @@ use native.Mathlib.Omega.{arith}
 use borrow.Author.Needs.{needs}
 use Rattle.twoway_type3.specs.Inner.{blockFrom}
 use Rattle.twoway_type3.proofs.Chains.{wald-lent}
-use Rattle.twoway_type3.proofs.Sizes.{block-start, block-rows, block-most, inverse-most, system-most}
+use Rattle.twoway_normal.proofs.Sizes.{system-most}
+use Rattle.twoway_type3.proofs.Sizes.{block-start, block-rows, block-most, inverse-most}
 use Rattle.twoway_type3.proofs.wald.wald_ss.Statement.{statement}
 use Rattle.twoway_type3.proofs.wald.wald_ss.Tie as tie
 

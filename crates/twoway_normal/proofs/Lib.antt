@@ -1,0 +1,15 @@
+pub mod Sizes
+pub mod Lent
+pub mod Fitted
+pub mod Ways
+pub mod Entries
+pub mod Built
+pub mod Columns
+pub mod Wholes
+pub mod Tallies
+pub mod Coded
+pub mod Counted
+pub mod Readings
+pub mod Keeping
+pub mod Answers
+pub mod Laid
