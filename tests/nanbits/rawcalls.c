@@ -356,6 +356,7 @@ static void ask_equations(const struct set *s, unsigned levels_a, unsigned level
 
 static void ask_cells(struct set *s, unsigned kind, unsigned levels_a, unsigned levels_b, unsigned most, int spoilt) {
     static size_t counts[ROWS];
+    uint64_t skips[5];
     for (int balanced = 0; balanced < 2; balanced++) {
         cells(s, levels_a, levels_b, most, balanced);
         readings_of(s, kind);
@@ -369,7 +370,7 @@ static void ask_cells(struct set *s, unsigned kind, unsigned levels_a, unsigned 
         codes(s, kind < KINDS);
         with(&one, s->readings, s->n);
         ask_equations(s, levels_a, levels_b);
-        raw_type3_ss(one.at, s->n, s->code_a, s->n, s->code_b, s->n, levels_a, levels_b, with(&two, NULL, SCRATCH), SCRATCH + BEHIND, LENT(three, 3));
+        raw_type3_ss(one.at, s->n, s->code_a, s->n, s->code_b, s->n, levels_a, levels_b, with(&two, NULL, SCRATCH), SCRATCH + BEHIND, LENT(three, 3), skips, 5);
         took(TYPE3_SS, s, 0, 0), wrote(TYPE3_SS, s, &three, 3, 0), zeros(TYPE3_SS, s, &two, SCRATCH);
         struct design taken = {SCRATCH + BEHIND, s->n, s->n, {0, 0, 0, levels_a, levels_b, s->n}};
         struct design a_nan = {SCRATCH + BEHIND, s->n, s->n, {4}}, uneven = {SCRATCH + BEHIND, s->n, s->n, {10, s->sizes[0], s->sizes[1]}};
