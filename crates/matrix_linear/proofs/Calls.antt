@@ -1,6 +1,6 @@
 -- The ends of the three calls: too many rows, or no room for them, or the call's steps were taken one after another.
 use Prim.Native.Nat.{ℕ, _+_, _*_, _<_, _≤_}
-use mathlib.Core.Path.{_≡_, refl, ap}
+use mathlib.Core.Path.{_≡_, ap}
 use mathlib.Core.Bool.{cond}
 use mathlib.Core.List.{List}
 use borrow.Author.Tests.{le-leb, lt-leb}

@@ -8,7 +8,6 @@ use lib.Dec.{ltb, eqb}
 use lib.Ieee.{Float}
 use lib.ListN.{length, getD}
 use Rattle.base.proofs.Order.{passed-answer, refused-answer}
-use Rattle.results.specs.declared.Effects.{Effects}
 use Rattle.results.specs.Effects.{noSkips, noEffects}
 use Rattle.twoway_balanced.specs.Squares.{otherCount, effectsOf, balancedSs}
 use Rattle.twoway_checks.specs.Cells.{cellCounts}

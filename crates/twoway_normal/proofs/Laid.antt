@@ -47,7 +47,7 @@ module _ (values : List Float) (us vs : List ℕ) (a b : ℕ) (work : List Float
   unfolding wiped
   laid-wiped f h = rw (laid-length f h, laid-behind f h)
 
-  -- what the call's answer tells: true, and it fitted and the memory is laid out; false, and the memory is as it was
+  -- what the answer true tells: the design fitted, and the memory is laid out
   pub equations-taken : {w : List Float} {r : Bool} → (w, r) ≡ normalEquations values us vs a b work → r ≡ true → Fitting values us vs a b × (scratchPlaces ≤ length work) × (w ≡ laidSystem values us vs a b work)
   unfolding normalEquations
   equations-taken {w} {r} e t = go (fits (length values) (length us) (length vs) a b (length work)) refl
@@ -55,11 +55,3 @@ module _ (values : List Float) (us vs : List ℕ) (a b : ℕ) (work : List Float
       go : (s : Bool) → fits (length values) (length us) (length vs) a b (length work) ≡ s → Fitting values us vs a b × (scratchPlaces ≤ length work) × (w ≡ laidSystem values us vs a b work)
       go true q = let k = fitting values us vs a b (length work) q in (k .0, k .1, ap (λ (y : List Float × Bool). y .0) (rw q at e))
       go false q = absurd (true≢false (sym t ∙ ap (λ (y : List Float × Bool). y .1) (rw q at e)))
-
-  pub equations-refused : {w : List Float} {r : Bool} → (w, r) ≡ normalEquations values us vs a b work → r ≡ false → w ≡ work
-  unfolding normalEquations
-  equations-refused {w} {r} e t = go (fits (length values) (length us) (length vs) a b (length work)) refl
-    where
-      go : (s : Bool) → fits (length values) (length us) (length vs) a b (length work) ≡ s → w ≡ work
-      go true q = absurd (true≢false (sym (ap (λ (y : List Float × Bool). y .1) (rw q at e)) ∙ t))
-      go false q = ap (λ (y : List Float × Bool). y .0) (rw q at e)

@@ -1,6 +1,6 @@
 -- The two ends of `type3_ss`, from what the call of the normal equations said: r, with the memory w.
 use Prim.Native.Nat.{ℕ, _*_, _+_, _≤_}
-use mathlib.Core.Path.{_≡_, refl, sym, ap, _∙_}
+use mathlib.Core.Path.{_≡_, sym, ap, _∙_}
 use mathlib.Core.Bool.{Bool, true, false, cond, true≢false}
 use mathlib.Core.List.{List, _++_}
 use native.Mathlib.Omega.{arith}
@@ -21,12 +21,12 @@ use Rattle.twoway_normal.proofs.Laid.{laid-system, laid-length, laid-wiped, equ
 use Rattle.twoway_type3.specs.Answer.{effectsFrom, allEffects, type3Ss}
 
 module _ (values : List Float) (us vs : List ℕ) (a b : ℕ) (work : List Float) {w : List Float} {r : Bool} (e : (w, r) ≡ normalEquations values us vs a b work) where
-  abbrev Asked : Bool
-  Asked = fits (length values) (length us) (length vs) a b (length work)
+  abbrev asked : Bool
+  asked = fits (length values) (length us) (length vs) a b (length work)
 
   pub not-taken : {d : Effects} → r ≡ false → d ≡ noEffects → _≡_ {A = List Float × Effects} (w, d) (type3Ss values us vs a b work)
   unfolding normalEquations type3Ss
-  not-taken {d} f q = go Asked e
+  not-taken {d} f q = go asked e
     where
       go : (t : Bool) → _≡_ {A = List Float × Bool} (w, r) (cond t (laidSystem values us vs a b work, true) (work, false)) → _≡_ {A = List Float × Effects} (w, d) (cond t (wiped work, allEffects values us vs a b) (work, noEffects))
       go true p = absurd (true≢false (sym (ap (λ (y : List Float × Bool). y .1) p) ∙ f))
@@ -36,7 +36,7 @@ module _ (values : List Float) (us vs : List ℕ) (a b : ℕ) (work : List Float
   pub taken : (x : List Float) {v : List Float} {d : Effects} → r ≡ true → length x ≡ scratchPlaces → d ≡ effectsFrom (part 0 (a * b * (a * b + 1)) (take scratchPlaces (drop 0 w))) a b → v ≡ wiped (x ++ drop scratchPlaces w)
       → _≡_ {A = List Float × Effects} (v, d) (type3Ss values us vs a b work)
   unfolding normalEquations type3Ss part
-  taken x {v} {d} f l q p = go Asked e
+  taken x {v} {d} f l q p = go asked e
     where
       go : (t : Bool) → _≡_ {A = List Float × Bool} (w, r) (cond t (laidSystem values us vs a b work, true) (work, false)) → _≡_ {A = List Float × Effects} (v, d) (cond t (wiped work, allEffects values us vs a b) (work, noEffects))
       go false u = absurd (true≢false (sym f ∙ ap (λ (y : List Float × Bool). y .1) u))

@@ -1,6 +1,6 @@
 -- Where the sizes fit, the normal equations and the effects are worked out in the first 6,400 places, and the wipe leaves no trace of that; where they do not, nothing is touched.
 use Prim.Native.Nat.{_≤_}
-use mathlib.Core.Path.{_≡_, _∙_}
+use mathlib.Core.Path.{_∙_}
 use native.Mathlib.Omega.{arith}
 use borrow.Author.Needs.{needs}
 use mathlib.Core.List.{List}

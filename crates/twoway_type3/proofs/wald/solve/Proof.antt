@@ -2,9 +2,7 @@
 use Prim.Native.Nat.{_-_, _+_, _*_, _<_, _≤_}
 use native.Mathlib.Omega.{arith}
 use borrow.Author.Needs.{needs}
-use mathlib.Core.Path.{_≡_}
-use lib.ListN.{length}
-use Rattle.base.specs.Limits.{mostCells, scratchPlaces}
+use Rattle.base.specs.Limits.{mostCells}
 use Rattle.twoway_type3.specs.Inner.{inverseFrom}
 use Rattle.twoway_type3.proofs.Chains.{solve-lent}
 use Rattle.twoway_normal.proofs.Sizes.{cells-most, system-most}
