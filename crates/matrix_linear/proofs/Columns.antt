@@ -1,6 +1,5 @@
 -- The ways through one column, each from what the code worked out step by step: p, x, y are the memory after a step.
 use Prim.Native.Nat.{ℕ, _+_, _*_, _<_, _≤_}
-use native.Mathlib.Nat.{add-zero}
 use mathlib.Core.Path.{_≡_, refl, sym, ap, _∙_}
 use mathlib.Core.Bool.{Bool, true, false}
 use mathlib.Core.List.{List}
@@ -16,7 +15,7 @@ use Rattle.base.proofs.Bounds.{then-of, else-of}
 use Rattle.float.specs.Words.{plusZero}
 use Rattle.matrix_places.specs.Places.{at, overRow}
 use Rattle.matrix_linear.specs.Rows.{swapAt, swapRows, pivotRow, pivoted, skips, clearBelow}
-use Rattle.matrix_linear.specs.Skips.{pivotSkips}
+use Rattle.matrix_linear.specs.Skips.{pivotSkips, oneMore}
 use Rattle.matrix_linear.specs.Inner.{counted}
 use Rattle.matrix_linear.specs.System.{cleared, column}
 use Rattle.matrix_linear.specs.Inverse.{clearOther, clearOthers, scaled, reduced, fullColumn}
@@ -50,15 +49,10 @@ module _ (n w col : ℕ) (m : List Float) {p : List Float} (e : p ≡ pivoted n 
   unfolding fullColumn reduced scaled
   full-cleared h q r = else-of (skips (pivoted n w col m) (col * w + col)) _ _ (moved h) (r ∙ ap (clearOthers n w col) (q ∙ ap (λ (s : List Float). overRow (col * w) (at s (col * w + col)) w s) e))
 
-  -- and the count of either: one more where the column was skipped, the same where it was not; x is the memory after the column
-  module _ (by : ℕ → List Float → List Float) {x : List Float} (k : ℕ) where
-    pub counts-one : skips p (col * w + col) ≡ true → x ≡ by col m → ((x, k + 1) ≡ counted by n w col (m, k)) × (k + 1 ≤ k + 1)
-    unfolding pivotSkips
-    counts-one h q = (rw (q, moved h), omega arith)
-
-    pub counts-none : skips p (col * w + col) ≡ false → x ≡ by col m → ((x, k) ≡ counted by n w col (m, k)) × (k ≤ k + 1)
-    unfolding pivotSkips
-    counts-none h q = (rw (q, moved h, add-zero k), omega arith)
+  -- and the count of either, j where it was k: one more where the column was skipped; x is the memory after the column
+  pub counts : (by : ℕ → List Float → List Float) {x : List Float} {t : Bool} (j k : ℕ) → skips p (col * w + col) ≡ t → x ≡ by col m → j ≡ oneMore t k → j ≤ k + 1 → ((x, j) ≡ counted by n w col (m, k)) × (j ≤ k + 1)
+  unfolding pivotSkips
+  counts by j k h q e l = (λ i. (q i, (e ∙ ap (λ (t : Bool). oneMore t k) (sym (moved h))) i), l)
 
 -- a row that changes places with itself
 pub swap-own : (w a b : ℕ) (m : List Float) → a ≡ b → m ≡ swapRows w a b m

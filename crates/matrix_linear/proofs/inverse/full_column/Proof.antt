@@ -5,7 +5,7 @@ use mathlib.Core.Path.{sym, _∙_}
 use native.Mathlib.Omega.{arith}
 use borrow.Author.Needs.{needs}
 use Rattle.matrix_linear.specs.Inverse.{fullColumn}
-use Rattle.matrix_linear.proofs.Columns.{full-skipped, full-cleared, counts-one, counts-none}
+use Rattle.matrix_linear.proofs.Columns.{full-skipped, full-cleared, counts}
 use Rattle.base.proofs.Bounds.{row-end}
 use Rattle.matrix_places.proofs.Rows.{over-room}
 use Rattle.matrix_linear.proofs.inverse.full_column.Statement.{statement}
@@ -41,7 +41,7 @@ returns : tie.Need-returns
 returns c =
     let swapped = c .before .before .before .before .before .pivot .ensures in
     let small = sym (c .before .skips .ensures) ∙ c .if1 .taken in
-    counts-one _ _ _ _ swapped (fullColumn _ _) _ small (full-skipped _ _ _ _ swapped small)
+    counts _ _ _ _ swapped (fullColumn _ _) _ _ small (full-skipped _ _ _ _ swapped small) (omega arith) (omega arith)
 
 mul-d : tie.Need-mul-d
 mul-d c = omega (arith, row-left c)
@@ -67,8 +67,8 @@ returns-2 c =
     let e = divided .before .before .before in
     let swapped = e .before .before .before .before .before .pivot .ensures in
     let large = sym (e .before .skips .ensures) ∙ e .if1 .left in
-    counts-none _ _ _ _ swapped (fullColumn _ _) _ large
-    (full-cleared _ _ _ _ swapped large (over-room _ _ _ _ (omega (arith, row-left e)) (divided .over-row .ensures)) (c .before .before .clear-others .ensures))
+    counts _ _ _ _ swapped (fullColumn _ _) _ _ large
+    (full-cleared _ _ _ _ swapped large (over-room _ _ _ _ (omega (arith, row-left e)) (divided .over-row .ensures)) (c .before .before .clear-others .ensures)) (omega arith) (omega arith)
 
 pub full-column-spec : {M : Type 1} → statement M
 full-column-spec =

@@ -5,7 +5,7 @@ use mathlib.Core.Path.{sym, _∙_}
 use native.Mathlib.Omega.{arith}
 use borrow.Author.Needs.{needs}
 use Rattle.matrix_linear.specs.System.{column}
-use Rattle.matrix_linear.proofs.Columns.{column-skipped, column-cleared, counts-one, counts-none}
+use Rattle.matrix_linear.proofs.Columns.{column-skipped, column-cleared, counts}
 use Rattle.base.proofs.Bounds.{row-end}
 use Rattle.matrix_linear.proofs.system.column.Statement.{statement}
 use Rattle.matrix_linear.proofs.system.column.Tie as tie
@@ -36,7 +36,7 @@ returns : tie.Need-returns
 returns c =
     let swapped = c .before .before .before .before .before .pivot .ensures in
     let small = sym (c .before .skips .ensures) ∙ c .if1 .taken in
-    counts-one _ _ _ _ swapped (column _ _) _ small (column-skipped _ _ _ _ swapped small)
+    counts _ _ _ _ swapped (column _ _) _ _ small (column-skipped _ _ _ _ swapped small) (omega arith) (omega arith)
 
 clear-below-requires : tie.Need-clear-below-requires
 clear-below-requires c κs = search needs
@@ -49,7 +49,7 @@ returns-2 c =
     let e = c .before .before .before .before in
     let swapped = e .before .before .before .before .before .pivot .ensures in
     let large = sym (e .before .skips .ensures) ∙ e .if1 .left in
-    counts-none _ _ _ _ swapped (column _ _) _ large (column-cleared _ _ _ _ swapped large (c .before .before .clear-below .ensures))
+    counts _ _ _ _ swapped (column _ _) _ _ large (column-cleared _ _ _ _ swapped large (c .before .before .clear-below .ensures)) (omega arith) (omega arith)
 
 pub column-spec : {M : Type 1} → statement M
 column-spec =
