@@ -2,17 +2,17 @@
 use mathlib.Core.Path.{◌≡◌, sym, ap, ◌∙◌}
 use mathlib.Core.List.{List, [], ◌∷◌, ◌++◌, flatten, append_assoc, append-nil}
 use Prim.Native.Nat.{ℕ, suc, ◌+◌, ◌*◌, ◌<◌, ◌≤◌}
-use native.Mathlib.Nat.{add_zero, add-suc, suc-add, zero-add, zero-mul, suc-mul}
+use native.Mathlib.Nat.{add-zero, add-suc, suc-add, zero-add, zero-mul, suc-mul}
 use native.Mathlib.Numerals.{add-one}
 use native.Mathlib.Omega.{arith}
-use lib.ListN.{get_or, length, take, drop, drop_of_length-le, length-append, length-drop}
+use lib.ListN.{get_or, set, length, take, drop, drop_of_length-le, length-append, length-drop}
 use lib.Seq.{drop-cons, drop-drop, sets, sets-eq}
 use Rattle.base.specs.Lists.{over, run}
 
 module _ {B : Type 0} where
   pub sets_append : (l : List B) (i : ℕ) (xs ys : List B) → sets l i (xs ++ ys) ≡ sets (sets l i xs) (i + length xs) ys
-  sets_append l i [] ys = rw add_zero
-  sets_append l i (x ∷ xs) ys = sets_append _ (suc i) xs ys ∙ rw (add-suc, suc-add)
+  sets_append l i [] ys = rw add-zero
+  sets_append l i (x ∷ xs) ys = sets_append (set l i x) (suc i) xs ys ∙ rw (add-suc, suc-add)
 
   -- from the front, a run is laid over
   pub sets_over : (xs l : List B) → length xs ≤ length l → sets l 0 xs ≡ over xs l

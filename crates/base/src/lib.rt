@@ -1,4 +1,6 @@
 // What every other crate stands on: how a call refuses, document 01's limits, and the check of sizes beside flat readings.
+#![tactic(auto)]
+
 ghost use Rattle.std.specs.Prelude.{◌≡◌, ◌-◌, take};
 ghost use Rattle.base.specs.Lists.{total};
 ghost use Rattle.base.specs.Refusals.{none, refuse};
@@ -26,7 +28,7 @@ pub const FEWEST_READINGS: usize = 2;
 
 // A refusal's number in document 01's table, and its two details; number 0 is no refusal.
 // The details have 64 bits: the code 4294967295 is 4294967296 levels.
-#[derive(Drop)]
+#[derive(Clone, Copy)]
 pub struct Refusal {
     pub number: u32,
     pub first: u64,

@@ -1,4 +1,6 @@
 // The calls of the bench host, which is written in C: an analysis of a reading set, into an output that the host lends.
+#![tactic(auto)]
+
 ghost use Rattle.std.specs.Prelude.{◌≡◌, ◌≤◌, ◌*◌, length};
 ghost use Rattle.base.specs.Lists.{over, run};
 ghost use Rattle.oneway.specs.declared.AnovaKind.TheVariants.{Fisher, Welch};

@@ -1,4 +1,6 @@
 // Reads a reading set from standard input, and prints Fisher's analysis of it, or its refusal.
+#![tactic(auto)]
+
 mod answers;
 
 fn main() {

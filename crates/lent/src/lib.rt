@@ -1,4 +1,6 @@
 // Memory that the caller lends to an analysis.
+#![tactic(auto)]
+
 ghost use Rattle.std.specs.Prelude.{◌≡◌, min};
 ghost use Rattle.base.specs.Limits.{scratch_places};
 ghost use Rattle.lent.specs.Laying.{laid};

@@ -1,4 +1,6 @@
 // Q and R of a small matrix, and its eigenvalues by QR. The rows of a matrix lie one after another in lent memory.
+#![tactic(auto)]
+
 mod qr;
 mod values;
 

@@ -1,4 +1,6 @@
 // Dense linear algebra on flat slices: the rows of a matrix lie one after another in lent memory.
+#![tactic(auto)]
+
 mod determinant;
 mod inverse;
 mod pivots;
@@ -20,7 +22,7 @@ use system::{backward, forward};
 const MOST_ROWS: usize = base::MOST_LEVELS * base::MOST_LEVELS;
 
 // Whether the rows were taken, and how many columns elimination skipped since their pivots were too small.
-#[derive(Drop)]
+#[derive(Clone, Copy)]
 pub struct Elimination {
     pub taken: bool,
     pub skipped: usize,

@@ -1,4 +1,6 @@
 // Rows made orthonormal. The rows of a matrix lie one after another in lent memory.
+#![tactic(auto)]
+
 mod rows;
 
 ghost use Rattle.std.specs.Prelude.{◌≡◌};

@@ -1,4 +1,6 @@
 // Places of flat matrices: whether there is room for them, the sums of products and the steps on rows that the matrix crates are made of.
+#![tactic(auto)]
+
 ghost use Rattle.std.specs.Prelude.{◌≡◌, length};
 ghost use Rattle.matrix_places.specs.Places.{refuses, lacks, dot_in, short, less_row_in, over_row_in};
 

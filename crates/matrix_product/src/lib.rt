@@ -1,4 +1,6 @@
 // The product of two matrices, and C S C'. The rows of a matrix lie one after another in lent memory.
+#![tactic(auto)]
+
 mod rows;
 
 ghost use Rattle.std.specs.Prelude.{◌≡◌, length};

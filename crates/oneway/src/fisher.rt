@@ -11,7 +11,7 @@ use oneway_rows::Row;
 use results::OneWayAnovaResult;
 
 // What is added up over the rows.
-#[derive(Drop)]
+#[derive(Clone, Copy)]
 pub enum Squares {
     Between(f64),
     Within,

@@ -1,4 +1,6 @@
 // One-way analysis of variance, Fisher's, Welch's and Levene's, from the groups' rows.
+#![tactic(auto)]
+
 mod fisher;
 mod levene;
 mod summary;
@@ -11,7 +13,7 @@ use base::Refusal;
 use oneway_rows::Row;
 use results::OneWayAnovaResult;
 
-#[derive(Drop)]
+#[derive(Clone, Copy)]
 pub enum AnovaKind {
     Fisher,
     Welch,

@@ -9,7 +9,7 @@ ghost use Rattle.oneway.specs.Inner.{Small, summary_of};
 use oneway_rows::Row;
 
 // Zeros stand behind the groups' numbers.
-#[derive(Drop)]
+#[derive(Clone, Copy)]
 pub struct Summary {
     pub n_groups: usize,
     pub n_total: u32,

@@ -12,7 +12,7 @@ use oneway_rows::Row;
 use results::OneWayAnovaResult;
 
 // A row with its weight in place of its squared distances.
-#[derive(Drop)]
+#[derive(Clone, Copy)]
 pub struct Weighed {
     pub size: u32,
     pub mean: f64,
@@ -20,13 +20,13 @@ pub struct Weighed {
 }
 
 // The spread of the groups' means about their weighted mean, and the adjustment for unequal variances.
-#[derive(Drop)]
+#[derive(Clone, Copy)]
 pub struct WelchSums {
     pub spread: f64,
     pub adjustment: f64,
 }
 
-#[derive(Drop)]
+#[derive(Clone, Copy)]
 pub struct WelchTest {
     pub statistic: f64,
     pub df_between: f64,
@@ -34,7 +34,7 @@ pub struct WelchTest {
 }
 
 // What is added up over the weighed rows.
-#[derive(Drop)]
+#[derive(Clone, Copy)]
 pub enum Share {
     Weight,
     Mean,

@@ -1,4 +1,6 @@
 // The door of one-way analysis: its checks in document 01's order, and the view of one group.
+#![tactic(auto)]
+
 ghost use Rattle.std.specs.Prelude.{◌≡◌, false, ◌≤◌, length};
 ghost use Rattle.base.specs.Lists.{cut};
 ghost use Rattle.base.specs.Inner.{Sized};

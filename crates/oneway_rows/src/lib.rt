@@ -1,4 +1,6 @@
 // One-way data: the row that each group is worked into, and the rows of all groups.
+#![tactic(auto)]
+
 pub mod sound;
 
 ghost use Rattle.std.specs.Prelude.{◌≡◌, length};
@@ -9,7 +11,7 @@ ghost use Rattle.oneway_rows.specs.Rows.{empty_row, row_answer, rows_of, refused
 use base::Refusal;
 
 // What the analyses need of a group: its size, its mean, and the squared distances of its readings from the mean, added up.
-#[derive(Drop)]
+#[derive(Clone, Copy)]
 pub struct Row {
     pub size: u32,
     pub mean: f64,
@@ -17,7 +19,7 @@ pub struct Row {
 }
 
 // The rows of all groups, and empty rows behind them; or a refusal.
-#[derive(Drop)]
+#[derive(Clone, Copy)]
 pub struct GroupStats {
     pub refusal: Refusal,
     pub n_groups: usize,

@@ -1,4 +1,6 @@
 // Repeated-measures analysis of variance: one row of readings a subject, one column a condition.
+#![tactic(auto)]
+
 mod answer;
 
 ghost use Rattle.std.specs.Prelude.{◌≡◌};
@@ -9,7 +11,7 @@ use base::Refusal;
 use results::{AnovaTableRow, CorrectedResult, SphericityResult};
 
 // The answer of a repeated-measures analysis. Unused places are zero, and so are the three results of sphericity where it was not worked out.
-#[derive(Drop)]
+#[derive(Clone, Copy)]
 pub struct RmAnovaResult {
     pub refusal: Refusal,
     pub n_subjects: usize,

@@ -1,4 +1,6 @@
 // Repeated measures: the checks at the door, in document 01's order.
+#![tactic(auto)]
+
 ghost use Rattle.std.specs.Prelude.{◌≡◌, false, length};
 ghost use Rattle.base.specs.Limits.{most_subjects};
 ghost use Rattle.base.specs.Lists.{cut};

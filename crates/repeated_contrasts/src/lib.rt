@@ -1,4 +1,6 @@
 // The covariance of conditions, seen through orthonormal differences of neighbours.
+#![tactic(auto)]
+
 mod differences;
 mod pairs;
 

@@ -1,10 +1,12 @@
 // Repeated measures: the table of subjects and conditions.
+#![tactic(auto)]
+
 ghost use Rattle.std.specs.Prelude.{◌≡◌, ◌≤◌, length};
 ghost use Rattle.repeated_grid.specs.Table.{subject_means, condition_means, no_table, table_of, rm_table};
 ghost use Rattle.repeated_grid.specs.Inner.{Fitting, row_added, column_sums};
 
 // The means of n subjects and k conditions, and the sums of squares. Unused places are zero.
-#[derive(Drop)]
+#[derive(Clone, Copy)]
 pub struct RmTable {
     pub grand_mean: f64,
     pub subject_means: [f64; base::MOST_SUBJECTS],

@@ -1,4 +1,6 @@
 // Repeated measures: Mauchly's W, and the degrees of freedom corrected for a lack of sphericity.
+#![tactic(auto)]
+
 mod epsilons;
 mod mauchly;
 

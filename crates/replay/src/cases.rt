@@ -12,7 +12,7 @@ const MOST: usize = 600;
 
 // The head: the kind, its option, and how many sizes, codes of A, codes of B and readings follow; with them, how many bytes the case
 // has. Where one of the counts is beyond the limit, the head is not sound.
-#[derive(Drop)]
+#[derive(Clone, Copy)]
 pub struct Head {
     pub sound: bool,
     pub length: usize,

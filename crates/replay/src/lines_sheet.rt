@@ -8,7 +8,7 @@ use oneway_rows::Row;
 use sheet::{Edit, Sheet};
 
 // A sheet, and the place behind the lines that were put.
-#[derive(Drop)]
+#[derive(Clone, Copy)]
 pub struct Progress {
     pub at: usize,
     pub sheet: Sheet,

@@ -1,4 +1,6 @@
 // Answers a stream of cases: reads it from standard input, and prints the lines of each case's answer.
+#![tactic(auto)]
+
 mod cases;
 mod kinds;
 mod lines;

@@ -6,7 +6,7 @@ use crate::lines::Out;
 use crate::{lines, lists};
 
 // A part of each row: the first one's start, how far the rows are apart, how many there are, and how many columns of each.
-#[derive(Drop)]
+#[derive(Clone, Copy)]
 pub struct Block {
     pub start: usize,
     pub apart: usize,

@@ -10,7 +10,7 @@ use crate::lines::Out;
 const HALF: usize = 32768;
 
 // The buffer's bytes from..to are read and not yet answered; the first `at` bytes of the other buffer are answers not yet written.
-#[derive(Drop)]
+#[derive(Clone, Copy)]
 pub struct Stream {
     pub from: usize,
     pub to: usize,
@@ -20,7 +20,7 @@ pub struct Stream {
 }
 
 // What a read gave: how many bytes, and whether it failed.
-#[derive(Drop)]
+#[derive(Clone, Copy)]
 pub struct Got {
     pub count: usize,
     pub failed: bool,

@@ -1,5 +1,7 @@
 // What analyses answer, where more than one crate makes the answer: one-way, the rows of a table, the effects of two factors, and the corrections for a
 // lack of sphericity.
+#![tactic(auto)]
+
 ghost use Rattle.std.specs.Prelude.{◌≡◌};
 ghost use Rattle.results.specs.Results.{refused_result};
 ghost use Rattle.results.specs.Rows.{effect_row, plain_row, no_row};
@@ -9,7 +11,7 @@ ghost use Rattle.results.specs.Corrections.{no_corrected, no_corrections};
 use base::Refusal;
 
 // The answer of a one-way analysis. What Welch's has not is zero beside a mark that says so.
-#[derive(Drop)]
+#[derive(Clone, Copy)]
 pub struct OneWayAnovaResult {
     pub refusal: Refusal,
     pub statistic: f64,
@@ -56,7 +58,7 @@ pub fn refused(refusal: Refusal) -> OneWayAnovaResult
 }
 
 // One row of the table: `f` is the source's `f_statistic`. Where there is no F, it is zero beside a mark that says so.
-#[derive(Drop)]
+#[derive(Clone, Copy)]
 pub struct AnovaTableRow {
     pub ss: f64,
     pub df: f64,
@@ -107,7 +109,7 @@ pub fn no_row() -> AnovaTableRow
 
 // How many columns were skipped by the solver of the normal equations, by the inverse of X'X, and by the inverses of the blocks of A, B
 // and the interaction.
-#[derive(Drop)]
+#[derive(Clone, Copy)]
 pub struct Skips {
     pub solver: usize,
     pub inverse: usize,
@@ -130,7 +132,7 @@ pub fn no_skips() -> Skips
 }
 
 // The sums of squares of factor A, of factor B and of their interaction, and what was skipped on the way to them.
-#[derive(Drop)]
+#[derive(Clone, Copy)]
 pub struct Effects {
     pub ss_a: f64,
     pub ss_b: f64,
@@ -151,14 +153,14 @@ pub fn no_effects() -> Effects
 }
 
 // Mauchly's W and its degrees of freedom.
-#[derive(Drop)]
+#[derive(Clone, Copy)]
 pub struct SphericityResult {
     pub w: f64,
     pub df: f64,
 }
 
 // The degrees of freedom times an epsilon, beside the F that they belong to.
-#[derive(Drop)]
+#[derive(Clone, Copy)]
 pub struct CorrectedResult {
     pub epsilon: f64,
     pub df_num_corrected: f64,
@@ -166,7 +168,7 @@ pub struct CorrectedResult {
     pub f_statistic: f64,
 }
 
-#[derive(Drop)]
+#[derive(Clone, Copy)]
 pub struct Corrections {
     pub sphericity: SphericityResult,
     pub greenhouse_geisser: CorrectedResult,

@@ -1,4 +1,6 @@
 // The square root of a double, correctly rounded. There is no such operation to call, so the number is read off its bit pattern and its root is found in whole numbers.
+#![tactic(auto)]
+
 ghost use Rattle.std.specs.Prelude.{◌≡◌, ◌*◌, ◌^◌, ◌≤◌, ◌<◌};
 ghost use Rattle.root.specs.Root.{significand, exponent, root_bits, sqrt_of};
 ghost use Rattle.root.specs.Inner.{IsFloor};

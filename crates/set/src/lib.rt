@@ -1,4 +1,6 @@
 // The reading set: one-way data as bytes. First the contents, the group count and each group's size in two bytes; then the readings, eight bytes each. All little endian.
+#![tactic(auto)]
+
 ghost use Rattle.std.specs.Prelude.{◌≡◌, map, ℕ, ◌≤◌, ◌*◌, length, replicate};
 ghost use Rattle.base.specs.Limits.{most_groups, most_readings};
 ghost use Rattle.base.specs.Lists.{over, words};
@@ -15,7 +17,7 @@ use results::OneWayAnovaResult;
 pub const LONGEST: usize = 2 + base::MOST_GROUPS * 2 + base::MOST_READINGS * 8;
 
 // A set that was read: its sizes and its readings, and zeros behind them; or a refusal.
-#[derive(Drop)]
+#[derive(Clone, Copy)]
 pub struct ReadingSet {
     pub refusal: Refusal,
     pub n_groups: usize,
@@ -25,7 +27,7 @@ pub struct ReadingSet {
 }
 
 // The sizes in a set's contents, and how many readings they add up to.
-#[derive(Drop)]
+#[derive(Clone, Copy)]
 pub struct Contents {
     pub sizes: [u32; base::MOST_GROUPS],
     pub total: u32,

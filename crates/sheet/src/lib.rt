@@ -1,4 +1,6 @@
 // The sheet: one-way data that is edited. A bench that repeats one reading edits it, and the sheet is again the one that a fresh load would give.
+#![tactic(auto)]
+
 mod checks;
 mod places;
 
@@ -12,7 +14,7 @@ use oneway_rows::Row;
 use results::OneWayAnovaResult;
 
 // The groups' readings one after another, a row for each group, and zeros behind both. The only count beside the rows' sizes is that of the groups.
-#[derive(Drop)]
+#[derive(Clone, Copy)]
 pub struct Sheet {
     pub places: [f64; Sheet::PLACES],
     pub rows: [Row; Sheet::ROWS],
@@ -20,7 +22,7 @@ pub struct Sheet {
 }
 
 // What a call says, and the sheet after it: where it is refused, the sheet as it was.
-#[derive(Drop)]
+#[derive(Clone, Copy)]
 pub struct Edit {
     pub refusal: Refusal,
     pub sheet: Sheet,

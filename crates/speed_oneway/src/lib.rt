@@ -1,4 +1,6 @@
 // The calls that the benchmark times, exported to the program that tools/speed builds.
+#![tactic(auto)]
+
 ghost use Rattle.std.specs.Prelude.{◌≡◌, ◌++◌, ◌≤◌, length};
 ghost use Rattle.base.specs.Lists.{over};
 ghost use Rattle.oneway.specs.declared.AnovaKind.TheVariants.{Fisher, Welch, Levene};

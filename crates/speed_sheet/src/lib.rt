@@ -1,4 +1,6 @@
 // The edits of a sheet that the benchmark times, exported to the program that tools/speed builds.
+#![tactic(auto)]
+
 mod history;
 
 ghost use Rattle.std.specs.Prelude.{◌≡◌};

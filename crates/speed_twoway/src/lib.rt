@@ -1,4 +1,6 @@
 // The two-way call that the benchmark times, exported to the program that tools/speed builds.
+#![tactic(auto)]
+
 ghost use Rattle.std.specs.Prelude.{◌≡◌};
 ghost use Rattle.speed_twoway.specs.Calls.{timed};
 

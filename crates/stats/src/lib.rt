@@ -1,4 +1,6 @@
 // Sums, means and variances of readings: one rounding per operation, in the order of the source.
+#![tactic(auto)]
+
 ghost use Rattle.std.specs.Prelude.{◌≡◌, length};
 ghost use Rattle.stats.specs.Sums.{sum, sq_dev, has_nan};
 ghost use Rattle.stats.specs.Figures.{mean_refusal, variance_refusal, figure, refused_figure, mean_answer, variance_answer};
@@ -6,7 +8,7 @@ ghost use Rattle.stats.specs.Figures.{mean_refusal, variance_refusal, figure, re
 use base::Refusal;
 
 // One number, or the refusal in its place.
-#[derive(Drop)]
+#[derive(Clone, Copy)]
 pub struct Figure {
     pub refusal: Refusal,
     pub value: f64,

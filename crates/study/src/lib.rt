@@ -1,4 +1,6 @@
 // The gauge study: how much of the readings' variance meters, benches and their interaction account for, from a balanced two-way analysis.
+#![tactic(auto)]
+
 ghost use Rattle.std.specs.Prelude.{◌≡◌, ◌*◌, ◌≤◌, length};
 ghost use Rattle.base.specs.Limits.{most_levels, most_readings};
 ghost use Rattle.study.specs.Study.{balance_refusal, study_refusal, refused_study, component_of, components_of, gauge_study};
@@ -7,7 +9,7 @@ use base::Refusal;
 use twoway::TwoWayAnovaResult;
 
 // The components of variance, of which none is below zero; meters are the levels of A, benches those of B, readings those of one cell.
-#[derive(Drop)]
+#[derive(Clone, Copy)]
 pub struct GaugeStudy {
     pub refusal: Refusal,
     pub meters: usize,

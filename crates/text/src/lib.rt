@@ -1,11 +1,13 @@
 // Numbers as text, and text in lent memory.
+#![tactic(auto)]
+
 ghost use Rattle.std.specs.Prelude.{◌≡◌, ◌<◌, ◌≤◌, ◌+◌, length};
 ghost use Rattle.base.specs.Lists.{over};
 ghost use Rattle.text.specs.Numbers.{glyph, digits, width_of, hex_of, numeral_of, decimal_of};
 ghost use Rattle.text.specs.Put.{put_of};
 
 // A number's decimal digits, in ASCII: the first len places. The others are 0.
-#[derive(Drop)]
+#[derive(Clone, Copy)]
 struct Numeral {
     pub digits: [u8; 20],
     pub len: usize,

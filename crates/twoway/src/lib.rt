@@ -1,4 +1,6 @@
 // Two-way analysis of variance with Type III sums of squares.
+#![tactic(auto)]
+
 mod squares;
 mod table;
 
@@ -11,7 +13,7 @@ use results::{AnovaTableRow, Skips};
 
 // The answer of a two-way analysis. Cell (i, j) stands at place i * levels_b + j; unused places are zero. A coefficient that was skipped
 // is 0 because the matrix gave out: `skips` counts them, and is all zeros in a balanced design.
-#[derive(Drop)]
+#[derive(Clone, Copy)]
 pub struct TwoWayAnovaResult {
     pub refusal: Refusal,
     pub factor_a: AnovaTableRow,

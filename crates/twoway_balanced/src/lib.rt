@@ -1,4 +1,6 @@
 // The sums of squares of a balanced two-way design: as many readings in each cell, so that the cells' means tell all.
+#![tactic(auto)]
+
 ghost use Rattle.std.specs.Prelude.{◌≡◌, ℕ, ◌+◌, ◌*◌, ◌≤◌, ◌<◌, length};
 ghost use Rattle.base.specs.Limits.{most_cells, most_levels};
 ghost use Rattle.base.specs.Inner.{Line};

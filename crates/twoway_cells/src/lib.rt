@@ -1,4 +1,6 @@
 // The readings of a two-way design sorted into the cells of two factors.
+#![tactic(auto)]
+
 mod sort;
 
 ghost use Rattle.std.specs.Prelude.{◌≡◌};

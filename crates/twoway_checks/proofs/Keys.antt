@@ -3,7 +3,7 @@ use mathlib.Core.Path.{◌≡◌, refl, sym, ap, ◌∙◌}
 use mathlib.Core.Bool.{Bool, true, false, ◌&&◌}
 use mathlib.Core.List.{List, [], ◌∷◌, ◌++◌, map, map-append}
 use Prim.Native.Nat.{ℕ, zero, suc, ◌+◌, ◌-◌, ◌*◌, ◌/◌, ◌%◌, ◌≤◌, ◌<◌, suc-le-suc}
-use native.Mathlib.Nat.{not-suc-le-zero, le_of_suc-le-suc, add_zero, zero-add, mul-add-div_right, mul-add-mod_self_right, div-eq_of_lt, mod-eq_of_lt, div-add-mod'}
+use native.Mathlib.Nat.{not-suc-le-zero, le_of_suc-le-suc, add-zero, zero-add, mul-add-div_right, mul-add-mod_self_right, div-eq_of_lt, mod-eq_of_lt, div-add-mod'}
 use native.Mathlib.Omega.{arith}
 use borrow.Author.Tests.{eqb-true, eqb-false, eq-eqb, ne_eqb}
 use lib.Dec.{eqb}
@@ -93,7 +93,7 @@ keyed_none m c (j ∷ ks) (x ∷ xs) k h =
 -- n numbers from k on
 pub numbers_split : (k n r : ℕ) → numbers k (n + r) ≡ numbers k n ++ numbers (k + n) r
 unfolding numbers
-numbers_split k zero r = rw (zero-add, add_zero)
+numbers_split k zero r = rw (zero-add, add-zero)
 numbers_split k (suc n) r =
     let e : suc n + r ≡ suc (n + r) = omega arith in
     let f : k + suc n ≡ suc k + n = omega arith in
@@ -103,7 +103,7 @@ module _ {B : Type 0} where
   pub numbers_at : (f : ℕ → B) (d : B) (k n c : ℕ) → c < n → get_or (map f (numbers k n)) c d ≡ f (k + c)
   unfolding numbers
   numbers_at f d k zero c h = absurd (not-suc-le-zero h)
-  numbers_at f d k (suc n) zero h = rw add_zero
+  numbers_at f d k (suc n) zero h = rw add-zero
   numbers_at f d k (suc n) (suc c) h = numbers_at f d (suc k) n c (le_of_suc-le-suc h) ∙ ap f (omega arith)
 
   pub length_numbers : (f : ℕ → B) (k n : ℕ) → length (map f (numbers k n)) ≡ n

@@ -1,4 +1,6 @@
 // The checks of two-way data, and the design that they leave known: the levels of both factors, and how many readings each cell has.
+#![tactic(auto)]
+
 mod refusals;
 mod tally;
 
@@ -8,7 +10,7 @@ ghost use Rattle.twoway_checks.specs.Data.{checked_data};
 use base::Refusal;
 
 // The design of readings that passed the checks, or a refusal. The cell (i, j) stands at place i * levels_b + j of cell_n.
-#[derive(Drop)]
+#[derive(Clone, Copy)]
 pub struct TwoWayData {
     pub refusal: Refusal,
     pub levels_a: usize,

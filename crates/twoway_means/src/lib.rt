@@ -1,4 +1,6 @@
 // The cells of a two-way design told in numbers: their means, the means of each factor's levels, and the squared distances within the cells.
+#![tactic(auto)]
+
 ghost use Rattle.std.specs.Prelude.{◌≡◌, ℕ, ◌+◌, ◌*◌, ◌≤◌, ◌<◌, length, take, leb};
 ghost use mathlib.Core.List.{foldl};
 ghost use Rattle.base.specs.Limits.{most_cells, most_levels, most_readings};
@@ -9,14 +11,14 @@ ghost use Rattle.twoway_means.specs.Table.{cell_at, tally, tally_line, margins, 
 ghost use Rattle.twoway_means.specs.Inner.{Laid, Fitting};
 
 // A sum, and how many were added, counted in floats as the source counts.
-#[derive(Drop)]
+#[derive(Clone, Copy)]
 pub struct Tally {
     pub sum: f64,
     pub count: f64,
 }
 
 // Unused places are zero.
-#[derive(Drop)]
+#[derive(Clone, Copy)]
 pub struct CellTable {
     pub cell_means: [f64; base::MOST_CELLS],
     pub marginal_means_a: [f64; base::MOST_LEVELS],

@@ -2,7 +2,7 @@
 use Prim.Native.Nat.{ℕ, zero, suc, ◌+◌, ◌*◌, ◌/◌, ◌%◌, ◌<◌}
 use mathlib.Core.Path.{◌≡◌, refl, ap, ◌∙◌}
 use mathlib.Core.List.{List}
-use native.Mathlib.Nat.{add_zero, not-suc-le-zero, le_of_suc-le-suc}
+use native.Mathlib.Nat.{add-zero, not-suc-le-zero, le_of_suc-le-suc}
 use native.Mathlib.Omega.{arith}
 use lib.ListN.{length, get_or}
 use lib.Ieee.{Float, nan}
@@ -26,7 +26,7 @@ module _ {A : Type 0} where
   places_at : (q k : ℕ) (f : ℕ → A) (d : A) (i : ℕ) → i < k → get_or (places q k f) i d ≡ f (q + i)
   unfolding places
   places_at q zero f d i h = absurd (not-suc-le-zero h)
-  places_at q (suc k) f d zero h = rw (add_zero q)
+  places_at q (suc k) f d zero h = rw (add-zero q)
   places_at q (suc k) f d (suc i) h =
       let e : q + 1 + i ≡ q + suc i = omega arith in
       places_at (q + 1) k f d i (le_of_suc-le-suc h) ∙ ap f e

@@ -2,7 +2,7 @@
 use Prim.Native.Nat.{ℕ, zero, suc, ◌+◌, ◌-◌, ◌*◌, ◌/◌, ◌%◌, ◌<◌, ◌≤◌}
 use mathlib.Core.Path.{◌≡◌, refl, sym, ap, ◌∙◌}
 use mathlib.Core.List.{List, [], ◌∷◌}
-use native.Mathlib.Nat.{not-suc-le-zero, le_of_suc-le-suc, add_zero, suc-mul, zero-mul, mul-add-div_right, mul-add-mod_self_right, div-eq_of_lt, mod-eq_of_lt}
+use native.Mathlib.Nat.{not-suc-le-zero, le_of_suc-le-suc, add-zero, suc-mul, zero-mul, mul-add-div_right, mul-add-mod_self_right, div-eq_of_lt, mod-eq_of_lt}
 use native.Mathlib.Numerals.{add-one}
 use native.Mathlib.Omega.{arith}
 use lib.ListN.{length, get_or, set, replicate, length-replicate}
@@ -29,7 +29,7 @@ module _ {A : Type 0} where
   change_suc : (h : ℕ → A → A) (d : A) (q c : ℕ) (m : List A) → c < length m → set (changed h q c m) c (h (q + c) (get_or (changed h q c m) c d)) ≡ changed h q (suc c) m
   unfolding changed
   change_suc h d q c [] l = absurd (not-suc-le-zero l)
-  change_suc h d q zero (x ∷ m) l = rw (add_zero q)
+  change_suc h d q zero (x ∷ m) l = rw (add-zero q)
   change_suc h d q (suc c) (x ∷ m) l =
       let e : q + suc c ≡ q + 1 + c = omega arith in
       rw e (ap (λ (t : List A). h q x ∷ t) (change_suc h d (q + 1) c m (le_of_suc-le-suc l)))
@@ -72,14 +72,14 @@ module _ {A : Type 0} where
   unfolding changed
   changed_at h d q zero m j l k = absurd (not-suc-le-zero l)
   changed_at h d q (suc c) [] j l k = absurd (not-suc-le-zero k)
-  changed_at h d q (suc c) (x ∷ m) zero l k = rw (add_zero q)
+  changed_at h d q (suc c) (x ∷ m) zero l k = rw (add-zero q)
   changed_at h d q (suc c) (x ∷ m) (suc j) l k =
       let e : q + 1 + j ≡ q + suc j = omega arith in
       changed_at h d (q + 1) c m j (le_of_suc-le-suc l) (le_of_suc-le-suc k) ∙ ap (λ (i : ℕ). h i (get_or m j d)) e
 
   -- places that their rule leaves alone
   pub changed_idle : (h : ℕ → A → A) (d : A) (c k : ℕ) (m : List A) → c + k ≤ length m → ((i : ℕ) (t : A) → i < k → h (c + i) t ≡ t) → changed h 0 c m ≡ changed h 0 (c + k) m
-  changed_idle h d c zero m l e = rw (add_zero c)
+  changed_idle h d c zero m l e = rw (add-zero c)
   changed_idle h d c (suc k) m l e =
       let s = changed h 0 (c + k) m in
       let n : c + suc k ≡ c + k + 1 = omega arith in
@@ -127,7 +127,7 @@ module _ {A : Type 0} (d : A) (n w : ℕ) (m : List A) (fits : n * w ≤ length 
       let y : h j k (get_or s (j * w + k) d) ≡ own (j * w + k) (get_or s (j * w + k) d) = rw (row_of_lem j w k b, column_of_lem j w k b) in
       let e : j * w + (k + 1) ≡ j * w + k + 1 = omega arith in
       each j k s ∙ rw e (change_next own d (j * w + k) m s _ q p y))
-      0 s (omega arith) (rw add_zero e)
+      0 s (omega arith) (rw add-zero e)
 
   pub all_ways : loop 0 n (λ j. loop 0 w (f j)) m ≡ changed own 0 (n * w) m
   unfolding changed

@@ -1,4 +1,6 @@
 // The normal equations of a two-way design, in memory that the caller lends.
+#![tactic(auto)]
+
 mod codes;
 mod counts;
 mod normal;

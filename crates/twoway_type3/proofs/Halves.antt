@@ -3,7 +3,7 @@ use Prim.Native.Nat.{ℕ, suc, ◌+◌, ◌-◌, ◌*◌, ◌/◌, ◌%◌, ◌<
 use mathlib.Core.Path.{◌≡◌, refl, sym, ap, ◌∙◌}
 use mathlib.Core.Bool.{Bool, true, false}
 use mathlib.Core.List.{List, ◌++◌, append_assoc}
-use native.Mathlib.Nat.{div-lt_iff_lt-mul, add_zero, suc-mul, zero-mul}
+use native.Mathlib.Nat.{div-lt_iff_lt-mul, add-zero, suc-mul, zero-mul}
 use native.Mathlib.Numerals.{add-one}
 use native.Mathlib.Omega.{arith}
 use borrow.Author.Tests.{leb-false, lt-leb, le-leb}
@@ -91,7 +91,7 @@ module _ (n from w to : ℕ) (m : List Float) (room : to + n * (2 * n) ≤ lengt
         let x : from + i * w + j ≡ from + (i * w + j) = omega arith in
         let y = kept s (from + i * w + j) a.1 (omega (arith, before i h)) ∙ ap (at m) x ∙ half_left n from w i j m l in
         rw k (put_one (i * (2 * n) + j) (to + i * (2 * n) + j) s (at s (from + i * w + j)) (omega arith) (omega (arith, ends)) a y))
-        0 s (omega arith) (rw (add_zero (i * (2 * n))) a)
+        0 s (omega arith) (rw (add-zero (i * (2 * n))) a)
 
     zeroed : (s : List Float) → At (i * (2 * n) + n) s → At (i * (2 * n) + n + n) (loop 0 n (zero_at (to + i * (2 * n) + n)) s)
     zeroed s a =
@@ -100,7 +100,7 @@ module _ (n from w to : ℕ) (m : List Float) (room : to + n * (2 * n) ≤ lengt
         let k : i * (2 * n) + n + (j + 1) ≡ i * (2 * n) + n + j + 1 = omega arith in
         let x : i * (2 * n) + (n + j) ≡ i * (2 * n) + n + j = omega arith in
         rw k (put_one (i * (2 * n) + n + j) (to + i * (2 * n) + n + j) s plus_zero (omega arith) (omega (arith, ends)) a (half_right n from w i (n + j) m (omega arith) (omega arith) ∙ ap (half_at n from w m) x)))
-        0 s (omega arith) (rw (add_zero (i * (2 * n) + n)) a)
+        0 s (omega arith) (rw (add-zero (i * (2 * n) + n)) a)
 
     row_put : (s : List Float) → At (i * (2 * n)) s → At ((i + 1) * (2 * n)) (half_step to n from w i s)
     unfolding half_row

@@ -1,4 +1,6 @@
 // Type III sums of squares of an unbalanced two-way design, in memory that the caller lends.
+#![tactic(auto)]
+
 mod half;
 mod wald;
 

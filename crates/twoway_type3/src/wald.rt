@@ -15,14 +15,14 @@ const INVERSE: usize = base::MOST_CELLS * (base::MOST_CELLS + 1);
 const BLOCK: usize = INVERSE + base::MOST_CELLS * (2 * base::MOST_CELLS);
 
 // The sum of squares of an effect, and how many columns the inversion of its block skipped.
-#[derive(Drop)]
+#[derive(Clone, Copy)]
 pub struct Effect {
     pub ss: f64,
     pub skipped: usize,
 }
 
 // How many columns the solver skipped, and how many the inverse of X'X.
-#[derive(Drop)]
+#[derive(Clone, Copy)]
 pub struct Solved {
     pub solver: usize,
     pub inverse: usize,

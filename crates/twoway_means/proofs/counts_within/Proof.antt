@@ -5,7 +5,7 @@ use native.Mathlib.Omega.{arith}
 use borrow.Author.Rules.{rules}
 use lib.ListN.{take}
 use borrow.Author.Tests.{lt-leb, le-leb}
-use native.Mathlib.Nat.{add_zero}
+use native.Mathlib.Nat.{add-zero}
 use Rattle.base.proofs.Sizes.{total_next}
 use Rattle.twoway_means.proofs.Places.{total_within, over_left}
 use Rattle.base.specs.Lists.{total}
@@ -20,7 +20,7 @@ decreases-loop counts k n left₀ c₀ left c = k - c
 
 loop-holds : tie.Need-loop-init invariant-loop decreases-loop
 unfolding total
-loop-holds c = (search rules, add_zero c.args.n)
+loop-holds c = (search rules, add-zero c.args.n)
 
 mul-if1 : tie.Need-overflow-mul-if1 invariant-loop decreases-loop
 mul-if1 c = omega (arith, c.loop-test.true, c.before.before.requires.0)
