@@ -1,0 +1,12 @@
+use Prim.Native.Nat.{◌≤◌, ◌-◌, ◌+◌}
+use mathlib.Core.Path.{◌≡◌}
+use lib.ListN.{length}
+use Rattle.base.specs.Loop.{loop}
+use Rattle.matrix_places.specs.Places.{less_at, less_row}
+use Rattle.matrix_places.proofs.less_row.Given as goal
+
+abbrev pub invariant-loop-j : goal.invariant-loop-j
+invariant-loop-j l = (l.p + l.w ≤ length l.m) × ((l.q + l.w ≤ length l.m) × ((length l.m ≡ length l.initial.m) × (loop l.j l.w (less_at l.p l.q l.f) l.m ≡ less_row l.p l.q l.f l.i l.w l.initial.m)))
+
+abbrev pub decreases-loop-j : goal.decreases-loop-j
+decreases-loop-j l = l.w - l.j
