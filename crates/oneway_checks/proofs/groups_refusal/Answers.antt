@@ -23,9 +23,10 @@ offset_bounds-readings-at c =
     let ends : (c.loop-g.at + get_or c.args.sizes.now c.loop-g.g 0 ≤ length c.args.readings.now) = fits_here c.args.readings.now c.args.sizes.now c.loop-g.g c.loop-g.at c.loop-g-test.true c.loop-g.invariant.1 in
     omega (arith, ends)
 
--- TODO: no goal is called for the old slice-bounds-group-fault-end
--- part-group-fault-end : tie.Need-slice-bounds-group-fault-end invariant-loop decreases-loop
--- part-group-fault-end c = omega (arith, ends c.before)
+pub slice_bounds-group_fault-end : goal.slice_bounds-group_fault-end
+slice_bounds-group_fault-end c =
+    let ends : (c.loop-g.at + get_or c.args.sizes.now c.loop-g.g 0 ≤ length c.args.readings.now) = fits_here c.args.readings.now c.args.sizes.now c.loop-g.g c.loop-g.at c.loop-g-test.true c.loop-g.invariant.1 in
+    omega (arith, ends)
 
 pub group_fault-r-requires : goal.group_fault-r-requires
 group_fault-r-requires c =
