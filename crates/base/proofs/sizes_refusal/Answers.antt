@@ -1,7 +1,6 @@
 -- Three tests in the definition's order. Behind the first one there are at most `most` sizes, so the sum of the first `most` is the sum of all.
-use Rattle.std.proofs.Common.{◌≡◌, ◌∙◌, eq-eqb}
+use Rattle.std.proofs.Common.{◌∙◌, eq-eqb}
 use borrow.Author.Tests.{lt-ltb, le-ltb, ne_eqb}
-use Rattle.base.specs.Lists.{total}
 use Rattle.base.specs.Sizes.{sizes_refusal}
 use Rattle.base.proofs.Sizes.{total_whole}
 use Rattle.base.proofs.sizes_refusal.Goals as goal

@@ -1,5 +1,5 @@
 -- The walk ends at n or behind the last size, and either way no size of the first n is left.
-use Rattle.std.proofs.Common.{◌≡◌, ◌<◌, ◌≤◌, length, sym, ◌∙◌, refl, arith}
+use Rattle.std.proofs.Common.{sym, ◌∙◌, refl, arith}
 use Rattle.base.specs.Lists.{total}
 use Rattle.base.proofs.Sizes.{total_next, total_whole}
 use Rattle.base.proofs.total_of.Goals as goal

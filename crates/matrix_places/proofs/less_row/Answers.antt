@@ -1,5 +1,4 @@
 -- Where neither test finds the memory too short, both rows end within it, and each turn keeps its length: what is left of the row gives the whole.
-use Prim.Native.Nat.{◌-◌}
 use mathlib.Core.Path.{refl, sym, ◌∙◌}
 use native.Mathlib.Omega.{arith}
 use lib.ListN.{length-set}

@@ -65,7 +65,7 @@ fisher_anova-requires c =
 pub returns : goal.returns
 returns c =
     let long : length c.put_distances.new.out ≡ length c.args.readings.now = ap length c.put_distances.ensures ∙ far_length c.args.means.now c.args.sizes.now c.args.readings.now c.requires.1 c.requires.0.sizes.adds in
-    let front : (back : List Float) → take (length c.args.readings.now) (c.put_distances.new.out ++ back) ≡ flatten (( distances c.args.means.now (cut c.args.sizes.now c.args.readings.now))) = λ (back : List Float). take_at c.put_distances.new.out back _ long ∙ c.put_distances.ensures in
+    let front : (back : List Float) → take (length c.args.readings.now) (c.put_distances.new.out ++ back) ≡ flatten ((distances c.args.means.now (cut c.args.sizes.now c.args.readings.now))) = λ (back : List Float). take_at c.put_distances.new.out back _ long ∙ c.put_distances.ensures in
     let again = far_cut c.args.means.now c.args.sizes.now c.args.readings.now c.requires.1 c.requires.0.sizes.adds in
-    c.fisher_anova.ensures (map row_of (( distances c.args.means.now (cut c.args.sizes.now c.args.readings.now)))) (c.summarize-s.ensures ∙ ap (λ (ys : List Float). summary_of (map row_of (cut c.args.sizes.now ys))) (front _) ∙ ap (λ (gs : List (List Float)). summary_of (map row_of gs)) again)
-    ∙ ap (fisher_anova (map row_of (( distances c.args.means.now (cut c.args.sizes.now c.args.readings.now))))) (front _)
+    c.fisher_anova.ensures (map row_of ((distances c.args.means.now (cut c.args.sizes.now c.args.readings.now)))) (c.summarize-s.ensures ∙ ap (λ (ys : List Float). summary_of (map row_of (cut c.args.sizes.now ys))) (front _) ∙ ap (λ (gs : List (List Float)). summary_of (map row_of gs)) again)
+    ∙ ap (fisher_anova (map row_of ((distances c.args.means.now (cut c.args.sizes.now c.args.readings.now))))) (front _)
