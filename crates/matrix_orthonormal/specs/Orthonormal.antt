@@ -1,5 +1,5 @@
 -- `orthonormalize`: p rows of k places, which become orthonormal in place.
-use Rattle.std.specs.Prelude.{ℕ, ◌+◌, ◌*◌, Bool, true, false, cond, List, length, Float}
+use Rattle.std.specs.Prelude.{ℕ, ◌*◌, Bool, true, false, cond, List, length, Float}
 use Rattle.std.specs.Float.Ieee.{lt}
 use Rattle.base.specs.Loop.{loop}
 use Rattle.float.specs.Words.{minus_zero, tinier}

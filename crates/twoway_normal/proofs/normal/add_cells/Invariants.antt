@@ -1,0 +1,15 @@
+use Prim.Native.Nat.{◌-◌, ◌+◌, ◌*◌}
+use mathlib.Core.Path.{◌≡◌}
+use lib.ListN.{length, get_or}
+use Rattle.base.specs.Lists.{part}
+use Rattle.base.specs.Loop.{loop}
+use Rattle.twoway_normal.specs.Counted.{cells_of}
+use Rattle.twoway_normal.specs.Equations.{rows_from}
+use Rattle.twoway_normal.specs.Inner.{Kept, Aside, add_cell, add_cells}
+use Rattle.twoway_normal.proofs.normal.add_cells.Given as goal
+
+abbrev pub invariant-loop-c : goal.invariant-loop-c
+invariant-loop-c l = (let z = l.a * l.b * (l.a * l.b + 1) in (l.c-end ≡ cells_of l.a l.b) × (length l.work ≡ length l.initial.work) × (loop l.c (cells_of l.a l.b) (λ d. add_cell l.a l.b d (get_or l.counts d 0)) (part 0 z l.work) ≡ add_cells l.a l.b l.counts (part 0 z l.initial.work)) × Kept l.a l.b l.counts rows_from l.c l.work × Aside l.a l.b l.initial.work l.work)
+
+abbrev pub decreases-loop-c : goal.decreases-loop-c
+decreases-loop-c l = l.c-end - l.c
