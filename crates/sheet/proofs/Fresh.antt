@@ -2,7 +2,7 @@
 use mathlib.Core.Path.{◌≡◌, refl, sym, ap, ◌∙◌}
 use mathlib.Core.Bool.{false}
 use mathlib.Core.List.{List, [], ◌∷◌, ◌++◌, map, flatten, foldl, map-map}
-use Prim.Native.Nat.{ℕ, zero, suc, ◌+◌, ◌-◌, ◌≤◌, ◌<◌}
+use Prim.Native.Nat.{ℕ, zero, suc, ◌+◌, ◌≤◌, ◌<◌}
 use native.Mathlib.Nat.{not-suc-le-zero, le_of_suc-le-suc}
 use native.Mathlib.Omega.{arith}
 use lib.Ieee.{Float, is_nan}
@@ -10,7 +10,6 @@ use lib.ListN.{length, get_or, take, drop, set, replicate, length-append, length
 use lib.Seq.{take_at, drop-append_seam, set-append_left, length-take-le}
 use Rattle.base.specs.declared.Refusal.{Refusal}
 use Rattle.base.specs.Lists.{cut, over}
-use Rattle.base.specs.Refusals.{guarded}
 use Rattle.base.proofs.Cuts.{cut_flatten, own_cut, total_flatten}
 use Rattle.base.proofs.Edits.{map_set, flatten_set_length}
 use Rattle.base.proofs.Order.{passed_answer, told}

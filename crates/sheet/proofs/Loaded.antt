@@ -7,7 +7,7 @@ use lib.Ieee.{Float}
 use lib.ListN.{length}
 use lib.Seq.{take_all}
 use Rattle.base.specs.declared.Refusal.{Refusal}
-use Rattle.base.specs.Lists.{total, cut, over}
+use Rattle.base.specs.Lists.{total, cut}
 use Rattle.base.specs.Refusals.{none}
 use Rattle.base.proofs.Cuts.{length_cut, flatten_cut}
 use Rattle.base.proofs.Order.{answers_refused, answers_numbers, passed_answer, refused_answer}

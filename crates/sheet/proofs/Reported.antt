@@ -1,17 +1,15 @@
 -- A report of any sheet, from load or not: the sheet hands over as many readings as its rows say.
-use mathlib.Core.Path.{◌≡◌, refl, sym, ap, ◌∙◌}
-use mathlib.Core.List.{List, flatten}
+use mathlib.Core.Path.{◌≡◌, sym, ap, ◌∙◌}
+use mathlib.Core.List.{flatten}
 use Prim.Native.Nat.{ℕ, ◌≤◌}
 use native.Mathlib.Omega.{arith}
-use lib.Ieee.{Float}
 use lib.ListN.{length, take}
 use lib.Seq.{length-take-le}
 use Rattle.base.specs.declared.Refusal.{Refusal}
 use Rattle.base.specs.Lists.{total}
-use Rattle.base.specs.Refusals.{none, guarded}
+use Rattle.base.specs.Refusals.{guarded}
 use Rattle.base.proofs.Cuts.{flatten_cut}
 use Rattle.base.proofs.Order.{either, passed_answer, refused_answer}
-use Rattle.oneway_rows.specs.declared.Row.{Row}
 use Rattle.oneway_rows.specs.Soundness.{sound_refusal}
 use Rattle.oneway_rows.proofs.Counted.{sound, sound_passes}
 use Rattle.results.specs.declared.OneWayAnovaResult.{OneWayAnovaResult}

@@ -4,7 +4,6 @@ use mathlib.Core.Path.{◌≡◌, refl}
 use native.Mathlib.Omega.{arith}
 use borrow.Author.Rules.{rules}
 use lib.ListN.{length}
-use lib.ListN.{length-map}
 use Rattle.base.proofs.Order.{answers_refused}
 use Rattle.sheet.specs.Calls.{call_of}
 use Rattle.sheet.specs.Calls.{Remove, refusal_of}
@@ -18,28 +17,28 @@ returns-then-refusal-ne0 c = answers_refused _ _ _ c.remove_refusal-refusal.ensu
 
 pub ahead-at-requires : goal.ahead-at-requires
 ahead-at-requires c =
-    let rows : length c.args.self.rows ≡ 16 = rw length-map at c.well_formed.0.1.1.1.0.1.0.1 in
+    let rows : length c.args.self.rows ≡ 16 = c.well_formed.0.1.1.1.0.1.0.1 in
     let passed : (refusal_of (Remove c.args.group c.args.place) c.args.self.groups c.args.self.rows).number ≡ 0 = rw c.remove_refusal-refusal.ensures at c.if-refusal-ne0.false in
     let known : Found c.args.self c.args.group c.args.place = (remove_found c.args.self rows c.args.group c.args.place passed).0 in
     let k = known in small_ahead _ _ _ (omega (arith, k.open_here.group)) k.open_here.counts
 
 pub overflow_add-group : goal.overflow_add-group
 overflow_add-group c =
-    let rows : length c.args.self.rows ≡ 16 = rw length-map at c.well_formed.0.1.1.1.0.1.0.1 in
+    let rows : length c.args.self.rows ≡ 16 = c.well_formed.0.1.1.1.0.1.0.1 in
     let passed : (refusal_of (Remove c.args.group c.args.place) c.args.self.groups c.args.self.rows).number ≡ 0 = rw c.remove_refusal-refusal.ensures at c.if-refusal-ne0.false in
     let known : Found c.args.self c.args.group c.args.place = (remove_found c.args.self rows c.args.group c.args.place passed).0 in
     let k = known in omega (arith, k.open_here.group, k.open_here.counts.high)
 
 pub ahead-end-requires : goal.ahead-end-requires
 ahead-end-requires c =
-    let rows : length c.args.self.rows ≡ 16 = rw length-map at c.well_formed.0.1.1.1.0.1.0.1 in
+    let rows : length c.args.self.rows ≡ 16 = c.well_formed.0.1.1.1.0.1.0.1 in
     let passed : (refusal_of (Remove c.args.group c.args.place) c.args.self.groups c.args.self.rows).number ≡ 0 = rw c.remove_refusal-refusal.ensures at c.if-refusal-ne0.false in
     let known : Found c.args.self c.args.group c.args.place = (remove_found c.args.self rows c.args.group c.args.place passed).0 in
     let k = known in small_ahead _ _ _ (omega (arith, k.open_here.group)) k.open_here.counts
 
 pub overflow_add-at : goal.overflow_add-at
 overflow_add-at c =
-    let rows : length c.args.self.rows ≡ 16 = rw length-map at c.well_formed.0.1.1.1.0.1.0.1 in
+    let rows : length c.args.self.rows ≡ 16 = c.well_formed.0.1.1.1.0.1.0.1 in
     let passed : (refusal_of (Remove c.args.group c.args.place) c.args.self.groups c.args.self.rows).number ≡ 0 = rw c.remove_refusal-refusal.ensures at c.if-refusal-ne0.false in
     let known : Found c.args.self c.args.group c.args.place = (remove_found c.args.self rows c.args.group c.args.place passed).0 in
     let numbers : (c.args.group < 16) × (c.ahead-at.result + c.args.place < c.ahead-end.result) × (c.ahead-at.result + 2 < c.ahead-end.result) × (c.ahead-end.result ≤ 512) =
@@ -54,14 +53,14 @@ overflow_add-at c =
 
 pub ahead-requires : goal.ahead-requires
 ahead-requires c =
-    let rows : length c.args.self.rows ≡ 16 = rw length-map at c.well_formed.0.1.1.1.0.1.0.1 in
+    let rows : length c.args.self.rows ≡ 16 = c.well_formed.0.1.1.1.0.1.0.1 in
     let passed : (refusal_of (Remove c.args.group c.args.place) c.args.self.groups c.args.self.rows).number ≡ 0 = rw c.remove_refusal-refusal.ensures at c.if-refusal-ne0.false in
     let known : Found c.args.self c.args.group c.args.place = (remove_found c.args.self rows c.args.group c.args.place passed).0 in
     let k = known in small_ahead _ _ _ (omega arith) k.open_here.counts
 
 pub delete-requires : goal.delete-requires
 delete-requires c =
-    let rows : length c.args.self.rows ≡ 16 = rw length-map at c.well_formed.0.1.1.1.0.1.0.1 in
+    let rows : length c.args.self.rows ≡ 16 = c.well_formed.0.1.1.1.0.1.0.1 in
     let passed : (refusal_of (Remove c.args.group c.args.place) c.args.self.groups c.args.self.rows).number ≡ 0 = rw c.remove_refusal-refusal.ensures at c.if-refusal-ne0.false in
     let known : Found c.args.self c.args.group c.args.place = (remove_found c.args.self rows c.args.group c.args.place passed).0 in
     let numbers : (c.args.group < 16) × (c.ahead-at.result + c.args.place < c.ahead-end.result) × (c.ahead-at.result + 2 < c.ahead-end.result) × (c.ahead-end.result ≤ 512) =
@@ -72,13 +71,13 @@ delete-requires c =
       omega (arith, k.within, k.open_here.counts.fits),
     )
     in
-    let places : length c.args.self.places ≡ 512 = rw length-map at c.well_formed.0.1.1.0.1.0.1 in
+    let places : length c.args.self.places ≡ 512 = c.well_formed.0.1.1.0.1.0.1 in
     let k = numbers in
     omega (arith, places, c.ahead.ensures, (known).within, (known).open_here.counts.fits, c.ahead-end.ensures)
 
 pub overflow_sub-end : goal.overflow_sub-end
 overflow_sub-end c =
-    let rows : length c.args.self.rows ≡ 16 = rw length-map at c.well_formed.0.1.1.1.0.1.0.1 in
+    let rows : length c.args.self.rows ≡ 16 = c.well_formed.0.1.1.1.0.1.0.1 in
     let passed : (refusal_of (Remove c.args.group c.args.place) c.args.self.groups c.args.self.rows).number ≡ 0 = rw c.remove_refusal-refusal.ensures at c.if-refusal-ne0.false in
     let known : Found c.args.self c.args.group c.args.place = (remove_found c.args.self rows c.args.group c.args.place passed).0 in
     let numbers : (c.args.group < 16) × (c.ahead-at.result + c.args.place < c.ahead-end.result) × (c.ahead-at.result + 2 < c.ahead-end.result) × (c.ahead-end.result ≤ 512) =
@@ -93,7 +92,7 @@ overflow_sub-end c =
 
 pub offset_bounds-places-at : goal.offset_bounds-places-at
 offset_bounds-places-at c =
-    let rows : length c.args.self.rows ≡ 16 = rw length-map at c.well_formed.0.1.1.1.0.1.0.1 in
+    let rows : length c.args.self.rows ≡ 16 = c.well_formed.0.1.1.1.0.1.0.1 in
     let passed : (refusal_of (Remove c.args.group c.args.place) c.args.self.groups c.args.self.rows).number ≡ 0 = rw c.remove_refusal-refusal.ensures at c.if-refusal-ne0.false in
     let known : Found c.args.self c.args.group c.args.place = (remove_found c.args.self rows c.args.group c.args.place passed).0 in
     let numbers : (c.args.group < 16) × (c.ahead-at.result + c.args.place < c.ahead-end.result) × (c.ahead-at.result + 2 < c.ahead-end.result) × (c.ahead-end.result ≤ 512) =
@@ -108,7 +107,7 @@ offset_bounds-places-at c =
 
 pub slice_bounds-of-count : goal.slice_bounds-of-count
 slice_bounds-of-count c =
-    let rows : length c.args.self.rows ≡ 16 = rw length-map at c.well_formed.0.1.1.1.0.1.0.1 in
+    let rows : length c.args.self.rows ≡ 16 = c.well_formed.0.1.1.1.0.1.0.1 in
     let passed : (refusal_of (Remove c.args.group c.args.place) c.args.self.groups c.args.self.rows).number ≡ 0 = rw c.remove_refusal-refusal.ensures at c.if-refusal-ne0.false in
     let known : Found c.args.self c.args.group c.args.place = (remove_found c.args.self rows c.args.group c.args.place passed).0 in
     let numbers : (c.args.group < 16) × (c.ahead-at.result + c.args.place < c.ahead-end.result) × (c.ahead-at.result + 2 < c.ahead-end.result) × (c.ahead-end.result ≤ 512) =
@@ -123,7 +122,7 @@ slice_bounds-of-count c =
 
 pub slice_bounds-of-start : goal.slice_bounds-of-start
 slice_bounds-of-start c =
-    let rows : length c.args.self.rows ≡ 16 = rw length-map at c.well_formed.0.1.1.1.0.1.0.1 in
+    let rows : length c.args.self.rows ≡ 16 = c.well_formed.0.1.1.1.0.1.0.1 in
     let passed : (refusal_of (Remove c.args.group c.args.place) c.args.self.groups c.args.self.rows).number ≡ 0 = rw c.remove_refusal-refusal.ensures at c.if-refusal-ne0.false in
     let known : Found c.args.self c.args.group c.args.place = (remove_found c.args.self rows c.args.group c.args.place passed).0 in
     let numbers : (c.args.group < 16) × (c.ahead-at.result + c.args.place < c.ahead-end.result) × (c.ahead-at.result + 2 < c.ahead-end.result) × (c.ahead-end.result ≤ 512) =
@@ -138,7 +137,7 @@ slice_bounds-of-start c =
 
 pub slice_bounds-of-end : goal.slice_bounds-of-end
 slice_bounds-of-end c =
-    let rows : length c.args.self.rows ≡ 16 = rw length-map at c.well_formed.0.1.1.1.0.1.0.1 in
+    let rows : length c.args.self.rows ≡ 16 = c.well_formed.0.1.1.1.0.1.0.1 in
     let passed : (refusal_of (Remove c.args.group c.args.place) c.args.self.groups c.args.self.rows).number ≡ 0 = rw c.remove_refusal-refusal.ensures at c.if-refusal-ne0.false in
     let known : Found c.args.self c.args.group c.args.place = (remove_found c.args.self rows c.args.group c.args.place passed).0 in
     let numbers : (c.args.group < 16) × (c.ahead-at.result + c.args.place < c.ahead-end.result) × (c.ahead-at.result + 2 < c.ahead-end.result) × (c.ahead-end.result ≤ 512) =
@@ -153,7 +152,7 @@ slice_bounds-of-end c =
 
 pub offset_bounds-rows-group : goal.offset_bounds-rows-group
 offset_bounds-rows-group c =
-    let rows : length c.args.self.rows ≡ 16 = rw length-map at c.well_formed.0.1.1.1.0.1.0.1 in
+    let rows : length c.args.self.rows ≡ 16 = c.well_formed.0.1.1.1.0.1.0.1 in
     let passed : (refusal_of (Remove c.args.group c.args.place) c.args.self.groups c.args.self.rows).number ≡ 0 = rw c.remove_refusal-refusal.ensures at c.if-refusal-ne0.false in
     let known : Found c.args.self c.args.group c.args.place = (remove_found c.args.self rows c.args.group c.args.place passed).0 in
     let numbers : (c.args.group < 16) × (c.ahead-at.result + c.args.place < c.ahead-end.result) × (c.ahead-at.result + 2 < c.ahead-end.result) × (c.ahead-end.result ≤ 512) =
@@ -168,7 +167,7 @@ offset_bounds-rows-group c =
 
 pub bounds-rows-group : goal.bounds-rows-group
 bounds-rows-group c =
-    let rows : length c.args.self.rows ≡ 16 = rw length-map at c.well_formed.0.1.1.1.0.1.0.1 in
+    let rows : length c.args.self.rows ≡ 16 = c.well_formed.0.1.1.1.0.1.0.1 in
     let passed : (refusal_of (Remove c.args.group c.args.place) c.args.self.groups c.args.self.rows).number ≡ 0 = rw c.remove_refusal-refusal.ensures at c.if-refusal-ne0.false in
     let known : Found c.args.self c.args.group c.args.place = (remove_found c.args.self rows c.args.group c.args.place passed).0 in
     let numbers : (c.args.group < 16) × (c.ahead-at.result + c.args.place < c.ahead-end.result) × (c.ahead-at.result + 2 < c.ahead-end.result) × (c.ahead-end.result ≤ 512) =
@@ -183,8 +182,8 @@ bounds-rows-group c =
 
 pub returns : goal.returns
 returns c =
-    let rows : length c.args.self.rows ≡ 16 = rw length-map at c.well_formed.0.1.1.1.0.1.0.1 in
-    let places : length c.args.self.places ≡ 512 = rw length-map at c.well_formed.0.1.1.0.1.0.1 in
+    let rows : length c.args.self.rows ≡ 16 = c.well_formed.0.1.1.1.0.1.0.1 in
+    let places : length c.args.self.places ≡ 512 = c.well_formed.0.1.1.0.1.0.1 in
     let passed : (refusal_of (Remove c.args.group c.args.place) c.args.self.groups c.args.self.rows).number ≡ 0 = rw c.remove_refusal-refusal.ensures at c.if-refusal-ne0.false in
     remove_made c.args.self rows c.args.group places c.ahead-at.ensures c.ahead-end.ensures c.args.place passed c.ahead.ensures
     c.delete.ensures c.of.ensures c.none.ensures
