@@ -7,10 +7,10 @@ use native.Mathlib.Omega.{arith}
 use borrow.Author.Tests.{ltb-false, eqb-true, eqb-false}
 use lib.Dec.{ltb, eqb}
 use lib.Ieee.{Float}
-use lib.ListN.{length, take, drop, get_or, replicate, length-drop}
+use lib.ListN.{length, take, drop, replicate, length-drop}
 use lib.Seq.{length-take-le}
 use Rattle.base.specs.Lists.{total, cut}
-use Rattle.base.specs.Refusals.{refuse, when, unless, ◌or_else◌, first_fault}
+use Rattle.base.specs.Refusals.{refuse, when, unless, first_fault}
 use Rattle.base.specs.Sizes.{sizes_refusal}
 use Rattle.base.proofs.Sizes.{sized}
 use Rattle.base.proofs.Order.{both_passed, no_fault, needed_there}

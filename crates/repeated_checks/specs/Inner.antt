@@ -1,8 +1,6 @@
 -- What the code keeps between its steps. No public contract cites these words.
-use Rattle.std.specs.Prelude.{ℕ, ◌*◌, ◌≤◌, ◌≡◌, false, List, Float, length, get_or, replicate}
+use Rattle.std.specs.Prelude.{ℕ, ◌*◌, ◌≤◌, ◌≡◌, List, Float, length, get_or, replicate}
 use Rattle.base.specs.Limits.{most_subjects, most_conditions, most_readings}
-use Rattle.stats.specs.Sums.{has_nan}
-use Rattle.repeated_checks.specs.Checks.{conditions}
 
 -- what all the checks leave known of xs, of n subjects and k conditions
 pub record Passed (xs : List Float) (ns : List ℕ) (n k : ℕ) : Type 0 where

@@ -7,7 +7,7 @@ use Rattle.base.specs.Refusals.{refuse, none, first_fault}
 use Rattle.base.specs.Sizes.{sizes_refusal}
 use Rattle.float.specs.Words.{plus_zero}
 use Rattle.stats.specs.Sums.{some}
-use Rattle.repeated_checks.specs.Checks.{design_refusal, subject_fault, subjects_refusal, repeated_refusal}
+use Rattle.repeated_checks.specs.Checks.{design_refusal, subject_fault, repeated_refusal}
 
 abbrev x : Float
 x = plus_zero

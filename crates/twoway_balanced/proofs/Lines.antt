@@ -1,8 +1,7 @@
 -- Laws of the lines of cells, and of the search for a count that differs.
-use mathlib.Core.Path.{◌≡◌, refl, sym, ◌∙◌}
+use mathlib.Core.Path.{◌≡◌, refl, sym}
 use mathlib.Core.List.{List, [], ◌∷◌}
 use Prim.Native.Nat.{ℕ, ◌+◌, ◌*◌, ◌≤◌, ◌<◌}
-use native.Mathlib.Nat.{le_refl, mul-one, not-suc-le-zero}
 use native.Mathlib.Numerals.{add-one}
 use native.Mathlib.Omega.{arith}
 use borrow.Author.Tests.{eq-eqb, ne_eqb}
@@ -11,7 +10,7 @@ use lib.ListN.{length, get_or, take, drop, replicate, length-set, drop_of_length
 use lib.Seq.{drop-cons, length-take-le}
 use Rattle.base.proofs.Loops.{loop_length}
 use Rattle.float.specs.Words.{plus_zero}
-use Rattle.base.proofs.Bounds.{product_le, row_end}
+use Rattle.base.proofs.Bounds.{product_le}
 use Rattle.twoway_balanced.specs.Squares.{unlike, margin_step, mean_margins}
 
 pub length_zero : {A : Type 0} (xs : List A) → length xs ≡ 0 → xs ≡ []

@@ -1,14 +1,13 @@
 -- The laws of the sort, from what the code that lays the readings knows.
-use mathlib.Core.Path.{◌≡◌, refl, ap, ◌∙◌}
+use mathlib.Core.Path.{◌≡◌, refl, ◌∙◌}
 use mathlib.Core.List.{List, flatten}
 use Prim.Native.Nat.{ℕ, ◌+◌, ◌*◌, ◌≤◌, ◌<◌}
 use native.Mathlib.Omega.{arith}
 use lib.Ieee.{Float, nan}
 use lib.ListN.{length, get_or, set}
-use Rattle.base.specs.Lists.{total, over}
+use Rattle.base.specs.Lists.{over}
 use Rattle.twoway_checks.specs.Inner.{keys, sorted}
 use Rattle.twoway_checks.proofs.Keys.{Below, coded_keys, coded_below, coded_here, coded_key, coded_place}
-use Rattle.twoway_checks.proofs.Tallies.{length_tally, total_tally}
 use Rattle.twoway_cells.specs.Inner.{Tallied}
 use Rattle.twoway_cells.specs.Starts.{starts_of}
 use Rattle.twoway_cells.proofs.Sorts.{Placed, placed_none, place_within, placed_one, placed_all}

@@ -51,7 +51,10 @@ tallied_at c ns (k ∷ ks) [] e b = absurd (omega arith)
 tallied_at c ns (k ∷ ks) (x ∷ xs) e b = tallied_at c (bump ns k) ks xs (omega arith) (bump_below ns k ks b) ∙ go (eqb k c) refl
   where
     go : (t : Bool) → eqb k c ≡ t → get_or (bump ns k) c 0 + length (keyed c ks xs) ≡ get_or ns c 0 + length (cond t (x ∷ keyed c ks xs) (keyed c ks xs))
-    go true p = let s : k ≡ c = eqb-true k c p in rw (← s, get_or-set_same ns k (get_or ns k 0 + 1) 0 (b 0 (omega arith))) (omega arith)
+    go true p =
+        let s : k ≡ c = eqb-true k c p in
+        let here : get_or (bump ns k) k 0 ≡ get_or ns k 0 + 1 = get_or-set_same ns k (get_or ns k 0 + 1) 0 (b 0 (omega arith)) in
+        omega (arith, here, ap (λ (j : ℕ). get_or (bump ns k) j 0) s, ap (λ (j : ℕ). get_or ns j 0) s)
     go false p = rw (get_or-set_other ns k c (get_or ns k 0 + 1) 0 (λ q. eqb-false k c p (sym q)))
 
 pub length_tally : (ks : List ℕ) → length (tally ks) ≡ 36

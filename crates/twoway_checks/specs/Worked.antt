@@ -5,7 +5,7 @@ use Rattle.float.specs.Words.{plus_zero}
 use Rattle.base.specs.Refusals.{refuse, none, first_fault}
 use Rattle.stats.specs.Sums.{some}
 use Rattle.twoway_checks.specs.Cells.{cell, numbers, cells}
-use Rattle.twoway_checks.specs.Checks.{largest, shape_refusal, levels_refusal, empty_refusal, cells_refusal, two_way_refusal}
+use Rattle.twoway_checks.specs.Checks.{largest, shape_refusal, levels_refusal, cells_refusal, two_way_refusal}
 
 abbrev x : Float
 x = plus_zero

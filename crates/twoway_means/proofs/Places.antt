@@ -1,24 +1,22 @@
 -- Laws of the places of cells: where one begins and ends, and that the part between is the cell.
-use mathlib.Core.Path.{◌≡◌, refl, sym, ap, ◌∙◌}
+use mathlib.Core.Path.{◌≡◌, refl, ap, ◌∙◌}
 use mathlib.Core.Bool.{Bool, true, false, cond, false≢true}
-use mathlib.Core.Logic.{inl, inr}
 use mathlib.Core.List.{List, []}
 use Prim.Native.Nat.{ℕ, ◌+◌, ◌*◌, ◌-◌, ◌≤◌, ◌<◌}
-use native.Mathlib.Nat.{eq-or-lt_of_le, le_refl, mul-one}
 use native.Mathlib.Omega.{arith}
 use borrow.Author.Tests.{ltb-false, leb-true}
-use lib.Dec.{ltb, leb}
+use lib.Dec.{ltb}
 use lib.Ieee.{Float}
-use lib.ListN.{length, get_or, take, drop, set, replicate, length-take, length-drop}
-use lib.Seq.{take-take, get_or-take, length-take-le, get_or-set_same, get_or-set_other}
+use lib.ListN.{length, get_or, take, drop, length-take, length-drop}
+use lib.Seq.{take-take, get_or-take, length-take-le}
 use Rattle.base.specs.Lists.{total, cut}
-use Rattle.base.proofs.Bounds.{product_le, row_end}
-use Rattle.base.proofs.Cuts.{total_turn, total_split, cut_at}
+use Rattle.base.proofs.Bounds.{product_le}
+use Rattle.base.proofs.Cuts.{total_split, cut_at}
 use Rattle.base.proofs.Sizes.{total_next}
 use Rattle.twoway_cells.specs.Starts.{starts_of}
 use Rattle.twoway_cells.proofs.Starts.{starts_at}
 use Rattle.twoway_means.specs.Table.{table_fits}
-use Rattle.twoway_means.specs.Inner.{Starts, Laid, Fitting}
+use Rattle.twoway_means.specs.Inner.{Laid, Fitting}
 
 either_false : (x : Bool) {y : Bool} → cond x false y ≡ true → (x ≡ false) × (y ≡ true)
 either_false false e = (refl, e)

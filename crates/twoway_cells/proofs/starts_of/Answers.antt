@@ -1,0 +1,35 @@
+-- Each turn puts down the sum of the counts before cell c, so that what is left to put down, `sums`, gets shorter by one. A count over what 512 leaves ends the walk with zeros.
+use Prim.Native.Nat.{◌+◌}
+use mathlib.Core.Path.{◌≡◌, refl, ◌∙◌}
+use native.Mathlib.Omega.{arith}
+use lib.ListN.{length-set, take, get_or}
+use Rattle.base.specs.Lists.{total}
+use Rattle.base.proofs.Cuts.{total_split}
+use Rattle.base.proofs.Sizes.{total_next, total_whole}
+use Rattle.twoway_cells.specs.Starts.{no_starts}
+use Rattle.twoway_cells.proofs.Starts.{sums_start, sums_turn, sums_end, too_many, too_long, told}
+use Rattle.twoway_cells.proofs.starts_of.Goals as goal
+
+pub returns-then-counts-gt-MOST_CELLS : goal.returns-then-counts-gt-MOST_CELLS
+unfolding no_starts
+returns-then-counts-gt-MOST_CELLS c = too_many _ c.if-counts-gt-MOST_CELLS.true
+
+pub loop-c-init : goal.loop-c-init
+unfolding total no_starts
+loop-c-init c = (omega arith, refl, omega arith, refl, sums_start c.args.counts.now c.if-counts-gt-MOST_CELLS.false)
+
+pub returns-then-at-counts : goal.returns-then-at-counts
+unfolding no_starts
+returns-then-at-counts c =
+    let next : (total (take (c.loop-c.c + 1) c.args.counts.now) ≡ total (take c.loop-c.c c.args.counts.now) + get_or c.args.counts.now c.loop-c.c 0) = total_next c.args.counts.now c.loop-c.c c.loop-c-test.true in
+    too_long c.args.counts.now c.if-counts-gt-MOST_CELLS.false (omega (arith, next, total_split c.args.counts.now (c.loop-c.c + 1)))
+
+pub loop-c-preserved : goal.loop-c-preserved
+loop-c-preserved c =
+    let next : (total (take (c.loop-c.c + 1) c.args.counts.now) ≡ total (take c.loop-c.c c.args.counts.now) + get_or c.args.counts.now c.loop-c.c 0) = total_next c.args.counts.now c.loop-c.c c.loop-c-test.true in
+    (omega arith, simp length-set c.loop-c.invariant.1, omega arith, omega (arith, next), sums_turn c.args.counts.now c.if-counts-gt-MOST_CELLS.false c.loop-c.starts c.loop-c.at c.loop-c.c c.loop-c.invariant.4 c.loop-c-test.true)
+
+pub returns : goal.returns
+returns c =
+    sums_end c.args.counts.now c.if-counts-gt-MOST_CELLS.false c.loop-c.starts c.loop-c.at c.loop-c.c c.loop-c.invariant.4 c.loop-c-test.false
+    ∙ told c.args.counts.now c.if-counts-gt-MOST_CELLS.false (omega (arith, total_whole c.args.counts.now c.loop-c.c c.loop-c-test.false))
