@@ -1,5 +1,5 @@
 -- What the code keeps between its steps. No public contract cites these words.
-use Rattle.std.specs.Prelude.{ℕ, ◌-◌, ◌*◌, ◌≤◌, List, Float, length, ◌≡◌}
+use Rattle.std.specs.Prelude.{ℕ, ◌*◌, ◌≤◌, List, Float, length, ◌≡◌}
 use Rattle.results.specs.declared.Effects.{Effects}
 use Rattle.lent.specs.Wiping.{wiped}
 use Rattle.twoway.specs.Anova.{squares_of}
