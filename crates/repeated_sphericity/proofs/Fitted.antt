@@ -5,7 +5,6 @@ use mathlib.Core.Bool.{Bool, true, false}
 use mathlib.Core.List.{List}
 use borrow.Author.Tests.{le-leb, lt-leb}
 use lib.Ieee.{Float}
-use lib.ListN.{length}
 use Rattle.repeated_contrasts.proofs.Sizes.{laid}
 use Rattle.repeated_contrasts.proofs.Taken.{taken_fits}
 use Rattle.results.specs.Corrections.{no_corrections}

@@ -1,5 +1,5 @@
 -- What the code keeps between its steps. No public contract cites these words.
-use Rattle.std.specs.Prelude.{ℕ, ◌-◌, ◌≤◌}
+use Rattle.std.specs.Prelude.{ℕ, ◌≤◌}
 use Rattle.base.specs.Limits.{most_subjects, most_conditions}
 
 -- sizes that are taken

@@ -1,5 +1,5 @@
 -- Worked numbers, small enough to follow by hand.
-use Rattle.std.specs.Prelude.{◌≡◌, refl, List, [], ◌∷◌, Float}
+use Rattle.std.specs.Prelude.{◌≡◌, refl, [], ◌∷◌, Float}
 use Rattle.std.specs.Float.{nan}
 use Rattle.std.specs.Float.Ieee.{is_nan, lt, add, sub, mul, div, neg, of_bits, of_int}
 use Rattle.base.specs.Loop.{loop, turns}
