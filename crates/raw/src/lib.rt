@@ -2,92 +2,90 @@
 // caller lends, as they are: an answer with lists has a part of that memory for its numbers and one for each list. Lent memory is lent on.
 // tests/nanbits/library builds this as a library of its own, tests/nanbits/list says which public function is missing here, and tests/nanbits/rawcalls.c reads
 // the bits. The proof is the prover's own: no function here has a contract.
+#![tactic(auto)]
+
 use base::Refusal;
 use oneway::AnovaKind;
 use oneway_rows::Row;
 use repeated::RmAnovaResult;
-use results::AnovaTableRow;
-use results::CorrectedResult;
-use results::Corrections;
-use results::Effects;
-use results::OneWayAnovaResult;
-use results::SphericityResult;
-use sheet::Edit;
-use sheet::Sheet;
+use results::{
+    AnovaTableRow, CorrectedResult, Corrections, Effects, OneWayAnovaResult, SphericityResult,
+};
+use sheet::{Edit, Sheet};
 use twoway::TwoWayAnovaResult;
 
 // ---- single floats
 
-#[no_mangle]
+#[unsafe(no_mangle)]
 pub extern "C" fn raw_canon(x: f64) -> f64 {
     float::canon(x)
 }
 
-#[no_mangle]
+#[unsafe(no_mangle)]
 pub extern "C" fn raw_canon_places(m: &mut [f64], k: usize) {
     float::canon_places(m, k);
 }
 
-#[no_mangle]
+#[unsafe(no_mangle)]
 pub extern "C" fn raw_abs(x: f64) -> f64 {
     float::abs(x)
 }
 
-#[no_mangle]
+#[unsafe(no_mangle)]
 pub extern "C" fn raw_least(a: f64, b: f64) -> f64 {
     float::least(a, b)
 }
 
-#[no_mangle]
+#[unsafe(no_mangle)]
 pub extern "C" fn raw_greatest(a: f64, b: f64) -> f64 {
     float::greatest(a, b)
 }
 
-#[no_mangle]
+#[unsafe(no_mangle)]
 pub extern "C" fn raw_clamp(x: f64, low: f64, high: f64) -> f64 {
     float::clamp(x, low, high)
 }
 
-#[no_mangle]
+#[unsafe(no_mangle)]
 pub extern "C" fn raw_power(x: f64, p: u32) -> f64 {
     float::power(x, p)
 }
 
-#[no_mangle]
+#[unsafe(no_mangle)]
 pub extern "C" fn raw_float_of(n: u64) -> f64 {
     float::float_of(n)
 }
 
-#[no_mangle]
+#[unsafe(no_mangle)]
 pub extern "C" fn raw_sqrt(x: f64) -> f64 {
     root::sqrt(x)
 }
 
 // ---- lent memory
 
-#[no_mangle]
+#[unsafe(no_mangle)]
 pub extern "C" fn raw_put(out: &mut [f64], numbers: &[f64]) {
     lent::put(out, numbers);
 }
 
-#[no_mangle]
+#[unsafe(no_mangle)]
 pub extern "C" fn raw_wipe(work: &mut [f64]) {
     lent::wipe(work);
 }
 
 // ---- sums, means and variances
 
-#[no_mangle]
+#[unsafe(no_mangle)]
 pub extern "C" fn raw_sum(readings: &[f64]) -> f64 {
     stats::sum(readings)
 }
 
-#[no_mangle]
+#[unsafe(no_mangle)]
 pub extern "C" fn raw_sq_dev(readings: &[f64], mean: f64) -> f64 {
     stats::sq_dev(readings, mean)
 }
 
-#[no_mangle]
+#[unsafe(no_mangle)]
 pub extern "C" fn raw_mean(readings: &[f64], out: &mut [f64]) -> u32 {
     let r = stats::mean(readings);
     let numbers = [r.value];
@@ -95,7 +93,7 @@ pub extern "C" fn raw_mean(readings: &[f64], out: &mut [f64]) -> u32 {
     r.refusal.number
 }
 
-#[no_mangle]
+#[unsafe(no_mangle)]
 pub extern "C" fn raw_variance(readings: &[f64], out: &mut [f64]) -> u32 {
     let r = stats::variance(readings);
     let numbers = [r.value];
@@ -240,13 +238,13 @@ fn hand_out_edit(e: Edit, readings: &mut [f64], means: &mut [f64], sq_devs: &mut
 }
 
 // The answer that carries a refusal alone.
-#[no_mangle]
+#[unsafe(no_mangle)]
 pub extern "C" fn raw_refused(number: u32, figures: &mut [f64], means: &mut [f64]) -> u32 {
     hand_out_one_way(results::refused(Refusal::new(number, 0, 0)), figures, means)
 }
 
 // The row of no group, by its own type and by the sheet's.
-#[no_mangle]
+#[unsafe(no_mangle)]
 pub extern "C" fn raw_empty_rows(out: &mut [f64]) {
     let r = Row::empty();
     let s = Sheet::empty_row();
@@ -254,7 +252,7 @@ pub extern "C" fn raw_empty_rows(out: &mut [f64]) {
     lent::put(out, &numbers);
 }
 
-#[no_mangle]
+#[unsafe(no_mangle)]
 pub extern "C" fn raw_row_of(group: &[f64], out: &mut [f64]) -> u32 {
     let r = Row::of(group);
     let numbers = [r.mean, r.sq_dev];
@@ -262,7 +260,7 @@ pub extern "C" fn raw_row_of(group: &[f64], out: &mut [f64]) -> u32 {
     r.size
 }
 
-#[no_mangle]
+#[unsafe(no_mangle)]
 pub extern "C" fn raw_validate(
     readings: &[f64],
     sizes: &[u32],
@@ -275,7 +273,7 @@ pub extern "C" fn raw_validate(
     s.refusal.number
 }
 
-#[no_mangle]
+#[unsafe(no_mangle)]
 pub extern "C" fn raw_one_way(
     readings: &[f64],
     sizes: &[u32],
@@ -290,7 +288,7 @@ pub extern "C" fn raw_one_way(
     )
 }
 
-#[no_mangle]
+#[unsafe(no_mangle)]
 pub extern "C" fn raw_report(
     readings: &[f64],
     sizes: &[u32],
@@ -309,7 +307,7 @@ pub extern "C" fn raw_report(
     )
 }
 
-#[no_mangle]
+#[unsafe(no_mangle)]
 pub extern "C" fn raw_sheet_load(
     readings: &[f64],
     sizes: &[u32],
@@ -321,7 +319,7 @@ pub extern "C" fn raw_sheet_load(
 }
 
 // The edits 1 replace, 2 append and any other number remove, in place: the sheet lies in the three lists, and the one after the edit takes its place there.
-#[no_mangle]
+#[unsafe(no_mangle)]
 pub extern "C" fn raw_sheet_edit(
     places: &mut [f64],
     sizes: &[u32],
@@ -343,7 +341,7 @@ pub extern "C" fn raw_sheet_edit(
     hand_out_edit(s.remove(group, place), places, means, sq_devs)
 }
 
-#[no_mangle]
+#[unsafe(no_mangle)]
 pub extern "C" fn raw_sheet_report(
     places: &[f64],
     sizes: &[u32],
@@ -358,14 +356,14 @@ pub extern "C" fn raw_sheet_report(
     hand_out_one_way(s.report(kind_of(kind)), figures, out)
 }
 
-#[no_mangle]
+#[unsafe(no_mangle)]
 pub extern "C" fn raw_group(readings: &[f64], sizes: &[u32], g: usize, out: &mut [f64]) -> usize {
     let view = oneway_checks::group(readings, sizes, g);
     lent::put(out, view);
     view.len()
 }
 
-#[no_mangle]
+#[unsafe(no_mangle)]
 pub extern "C" fn raw_read_set(set: &[u8], out: &mut [f64]) -> u32 {
     let r = set::read_set(set);
     let readings = r.readings;
@@ -373,7 +371,7 @@ pub extern "C" fn raw_read_set(set: &[u8], out: &mut [f64]) -> u32 {
     r.refusal.number
 }
 
-#[no_mangle]
+#[unsafe(no_mangle)]
 pub extern "C" fn raw_set_anova(
     set: &[u8],
     kind: u32,
@@ -439,28 +437,28 @@ fn count_at(cells: [usize; 36], cell: usize) -> usize {
     0
 }
 
-#[no_mangle]
+#[unsafe(no_mangle)]
 pub extern "C" fn raw_effect_row(ss: f64, df: f64, ms_error: f64, out: &mut [f64]) {
     hand_out_row(results::effect_row(ss, df, ms_error), out);
 }
 
-#[no_mangle]
+#[unsafe(no_mangle)]
 pub extern "C" fn raw_plain_row(ss: f64, df: f64, out: &mut [f64]) {
     hand_out_row(results::plain_row(ss, df), out);
 }
 
-#[no_mangle]
+#[unsafe(no_mangle)]
 pub extern "C" fn raw_no_row(out: &mut [f64]) {
     hand_out_row(results::no_row(), out);
 }
 
-#[no_mangle]
+#[unsafe(no_mangle)]
 pub extern "C" fn raw_no_effects(out: &mut [f64]) {
     hand_out_effects(results::no_effects(), out);
 }
 
 // How many readings cell `cell` has.
-#[no_mangle]
+#[unsafe(no_mangle)]
 pub extern "C" fn raw_organize(
     values: &[f64],
     factor_a: &[u32],
@@ -475,7 +473,7 @@ pub extern "C" fn raw_organize(
     count_at(cells, cell)
 }
 
-#[no_mangle]
+#[unsafe(no_mangle)]
 pub extern "C" fn raw_cell_table(
     readings: &[f64],
     counts: &[usize],
@@ -497,12 +495,12 @@ pub extern "C" fn raw_cell_table(
     put_6(means_b, all_b);
 }
 
-#[no_mangle]
+#[unsafe(no_mangle)]
 pub extern "C" fn raw_balanced_ss(means: &[f64], r: usize, a: usize, b: usize, out: &mut [f64]) {
     hand_out_effects(twoway_balanced::balanced_ss(means, r, a, b), out);
 }
 
-#[no_mangle]
+#[unsafe(no_mangle)]
 pub extern "C" fn raw_normal_equations(
     values: &[f64],
     factor_a: &[u32],
@@ -514,7 +512,7 @@ pub extern "C" fn raw_normal_equations(
     twoway_normal::normal_equations(values, factor_a, factor_b, a, b, work)
 }
 
-#[no_mangle]
+#[unsafe(no_mangle)]
 pub extern "C" fn raw_type3_ss(
     values: &[f64],
     factor_a: &[u32],
@@ -574,7 +572,7 @@ fn hand_out_two_way(
     put_6(means_b, all_b);
 }
 
-#[no_mangle]
+#[unsafe(no_mangle)]
 pub extern "C" fn raw_two_way(
     values: &[f64],
     factor_a: &[u32],
@@ -591,7 +589,7 @@ pub extern "C" fn raw_two_way(
     hand_out_counts(r.refusal, r.levels_a, r.levels_b, r.n, counts)
 }
 
-#[no_mangle]
+#[unsafe(no_mangle)]
 pub extern "C" fn raw_gauge_study(
     values: &[f64],
     factor_a: &[u32],
@@ -642,7 +640,7 @@ fn hand_out_all_corrections(c: Corrections, out: &mut [f64]) {
     hand_out_corrections(w, gg, hf, out);
 }
 
-#[no_mangle]
+#[unsafe(no_mangle)]
 pub extern "C" fn raw_rm_table(
     readings: &[f64],
     n: usize,
@@ -666,7 +664,7 @@ pub extern "C" fn raw_rm_table(
     put_12(conditions, condition_means);
 }
 
-#[no_mangle]
+#[unsafe(no_mangle)]
 pub extern "C" fn raw_corrections(
     readings: &[f64],
     means: &[f64],
@@ -679,19 +677,13 @@ pub extern "C" fn raw_corrections(
 ) {
     hand_out_all_corrections(
         repeated_sphericity::compute_sphericity_corrections(
-            readings,
-            means,
-            n,
-            k,
-            f_stat,
-            df_num,
-            df_den,
+            readings, means, n, k, f_stat, df_num, df_den,
         ),
         out,
     );
 }
 
-#[no_mangle]
+#[unsafe(no_mangle)]
 pub extern "C" fn raw_no_corrections(out: &mut [f64]) {
     hand_out_all_corrections(results::no_corrections(), out);
 }
@@ -734,7 +726,7 @@ fn hand_out_repeated(
     r.refusal.number
 }
 
-#[no_mangle]
+#[unsafe(no_mangle)]
 pub extern "C" fn raw_repeated(
     readings: &[f64],
     sizes: &[u32],
@@ -755,22 +747,22 @@ pub extern "C" fn raw_repeated(
 
 // ---- matrices
 
-#[no_mangle]
+#[unsafe(no_mangle)]
 pub extern "C" fn raw_solve(m: &mut [f64], n: usize) -> bool {
     matrix_linear::solve_linear_system(m, n).taken
 }
 
-#[no_mangle]
+#[unsafe(no_mangle)]
 pub extern "C" fn raw_inverse(m: &mut [f64], n: usize) -> bool {
     matrix_linear::matrix_inverse(m, n).taken
 }
 
-#[no_mangle]
+#[unsafe(no_mangle)]
 pub extern "C" fn raw_determinant(m: &mut [f64], n: usize) -> f64 {
     matrix_linear::matrix_determinant(m, n)
 }
 
-#[no_mangle]
+#[unsafe(no_mangle)]
 pub extern "C" fn raw_dot(
     x: &[f64],
     p: usize,
@@ -784,22 +776,22 @@ pub extern "C" fn raw_dot(
     matrix_places::dot(x, p, s, y, q, t, n, z)
 }
 
-#[no_mangle]
+#[unsafe(no_mangle)]
 pub extern "C" fn raw_less_row(m: &mut [f64], p: usize, q: usize, f: f64, i: usize, w: usize) {
     matrix_places::less_row(m, p, q, f, i, w);
 }
 
-#[no_mangle]
+#[unsafe(no_mangle)]
 pub extern "C" fn raw_over_row(m: &mut [f64], p: usize, d: f64, w: usize) {
     matrix_places::over_row(m, p, d, w);
 }
 
-#[no_mangle]
+#[unsafe(no_mangle)]
 pub extern "C" fn raw_orthonormalize(c: &mut [f64], p: usize, k: usize) -> bool {
     matrix_orthonormal::orthonormalize(c, p, k)
 }
 
-#[no_mangle]
+#[unsafe(no_mangle)]
 pub extern "C" fn raw_product(
     a: &[f64],
     b: &[f64],
@@ -813,22 +805,22 @@ pub extern "C" fn raw_product(
     matrix_product::product(a, b, u, t, n, l, w, out);
 }
 
-#[no_mangle]
+#[unsafe(no_mangle)]
 pub extern "C" fn raw_csc(c: &[f64], s: &[f64], p: usize, k: usize, out: &mut [f64]) -> bool {
     matrix_product::matrix_multiply_csc(c, s, p, k, out)
 }
 
-#[no_mangle]
+#[unsafe(no_mangle)]
 pub extern "C" fn raw_qr(a: &[f64], n: usize, q: &mut [f64], r: &mut [f64]) -> bool {
     matrix_eigen::qr_decomposition(a, n, q, r)
 }
 
-#[no_mangle]
+#[unsafe(no_mangle)]
 pub extern "C" fn raw_eigenvalues(m: &mut [f64], n: usize, values: &mut [f64]) -> bool {
     matrix_eigen::compute_eigenvalues(m, n, values)
 }
 
-#[no_mangle]
+#[unsafe(no_mangle)]
 pub extern "C" fn raw_contrast_covariance(
     readings: &[f64],
     means: &[f64],

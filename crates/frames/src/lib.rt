@@ -2,13 +2,12 @@
 // answer are used, so that the compiler keeps them; counts, flags and the refusal's details are not.
 // tools/stack builds this as a library of its own and reads its frames. The proof is the prover's own: no function here has a contract.
 // Place `i` of an answer's lists is added to its numbers: which place is not known before, so the whole list must be there.
+#![tactic(auto)]
+
 use oneway::AnovaKind;
 use repeated::RmAnovaResult;
-use results::AnovaTableRow;
-use results::CorrectedResult;
-use results::OneWayAnovaResult;
-use sheet::Edit;
-use sheet::Sheet;
+use results::{AnovaTableRow, CorrectedResult, OneWayAnovaResult};
+use sheet::{Edit, Sheet};
 use study::GaugeStudy;
 use twoway::TwoWayAnovaResult;
 
@@ -73,40 +72,40 @@ fn measures(r: RmAnovaResult, i: usize) -> f64 {
     rows + sphericity + r.grand_mean + condition + subject + (r.refusal.number as f64)
 }
 
-#[no_mangle]
+#[unsafe(no_mangle)]
 pub extern "C" fn call_mean(readings: &[f64]) -> f64 {
     let r = stats::mean(readings);
     r.value + (r.refusal.number as f64)
 }
 
-#[no_mangle]
+#[unsafe(no_mangle)]
 pub extern "C" fn call_variance(readings: &[f64]) -> f64 {
     let r = stats::variance(readings);
     r.value + (r.refusal.number as f64)
 }
 
-#[no_mangle]
+#[unsafe(no_mangle)]
 pub extern "C" fn call_sqrt(x: f64) -> f64 {
     root::sqrt(x)
 }
 
-#[no_mangle]
+#[unsafe(no_mangle)]
 pub extern "C" fn call_one_way_anova_fisher(readings: &[f64], sizes: &[u32], i: usize) -> f64 {
     one_way(oneway::one_way_anova(readings, sizes, AnovaKind::Fisher), i)
 }
 
-#[no_mangle]
+#[unsafe(no_mangle)]
 pub extern "C" fn call_one_way_anova_welch(readings: &[f64], sizes: &[u32], i: usize) -> f64 {
     one_way(oneway::one_way_anova(readings, sizes, AnovaKind::Welch), i)
 }
 
-#[no_mangle]
+#[unsafe(no_mangle)]
 pub extern "C" fn call_one_way_anova_levene(readings: &[f64], sizes: &[u32], i: usize) -> f64 {
     one_way(oneway::one_way_anova(readings, sizes, AnovaKind::Levene), i)
 }
 
 // `report` with the rows that the groups have.
-#[no_mangle]
+#[unsafe(no_mangle)]
 pub extern "C" fn call_report_fisher(readings: &[f64], sizes: &[u32], i: usize) -> f64 {
     let stats = oneway_rows::validate_anova_groups(readings, sizes);
     let rows = stats.rows;
@@ -116,7 +115,7 @@ pub extern "C" fn call_report_fisher(readings: &[f64], sizes: &[u32], i: usize) 
     )
 }
 
-#[no_mangle]
+#[unsafe(no_mangle)]
 pub extern "C" fn call_report_welch(readings: &[f64], sizes: &[u32], i: usize) -> f64 {
     let stats = oneway_rows::validate_anova_groups(readings, sizes);
     let rows = stats.rows;
@@ -126,7 +125,7 @@ pub extern "C" fn call_report_welch(readings: &[f64], sizes: &[u32], i: usize) -
     )
 }
 
-#[no_mangle]
+#[unsafe(no_mangle)]
 pub extern "C" fn call_report_levene(readings: &[f64], sizes: &[u32], i: usize) -> f64 {
     let stats = oneway_rows::validate_anova_groups(readings, sizes);
     let rows = stats.rows;
@@ -136,28 +135,28 @@ pub extern "C" fn call_report_levene(readings: &[f64], sizes: &[u32], i: usize) 
     )
 }
 
-#[no_mangle]
+#[unsafe(no_mangle)]
 pub extern "C" fn call_set_anova_fisher(set: &[u8], i: usize) -> f64 {
     one_way(set::set_anova(set, AnovaKind::Fisher), i)
 }
 
-#[no_mangle]
+#[unsafe(no_mangle)]
 pub extern "C" fn call_set_anova_welch(set: &[u8], i: usize) -> f64 {
     one_way(set::set_anova(set, AnovaKind::Welch), i)
 }
 
-#[no_mangle]
+#[unsafe(no_mangle)]
 pub extern "C" fn call_set_anova_levene(set: &[u8], i: usize) -> f64 {
     one_way(set::set_anova(set, AnovaKind::Levene), i)
 }
 
-#[no_mangle]
+#[unsafe(no_mangle)]
 pub extern "C" fn call_sheet_load(readings: &[f64], sizes: &[u32], i: usize) -> f64 {
     edited(Sheet::load(readings, sizes), i)
 }
 
 // An edit needs a sheet, so each of these loads one first.
-#[no_mangle]
+#[unsafe(no_mangle)]
 pub extern "C" fn call_sheet_replace(
     readings: &[f64],
     sizes: &[u32],
@@ -170,7 +169,7 @@ pub extern "C" fn call_sheet_replace(
     edited(loaded.sheet.replace(group, place, x), i)
 }
 
-#[no_mangle]
+#[unsafe(no_mangle)]
 pub extern "C" fn call_sheet_append(
     readings: &[f64],
     sizes: &[u32],
@@ -182,7 +181,7 @@ pub extern "C" fn call_sheet_append(
     edited(loaded.sheet.append(group, x), i)
 }
 
-#[no_mangle]
+#[unsafe(no_mangle)]
 pub extern "C" fn call_sheet_remove(
     readings: &[f64],
     sizes: &[u32],
@@ -194,25 +193,25 @@ pub extern "C" fn call_sheet_remove(
     edited(loaded.sheet.remove(group, place), i)
 }
 
-#[no_mangle]
+#[unsafe(no_mangle)]
 pub extern "C" fn call_sheet_report_fisher(readings: &[f64], sizes: &[u32], i: usize) -> f64 {
     let loaded = Sheet::load(readings, sizes);
     one_way(loaded.sheet.report(AnovaKind::Fisher), i)
 }
 
-#[no_mangle]
+#[unsafe(no_mangle)]
 pub extern "C" fn call_sheet_report_welch(readings: &[f64], sizes: &[u32], i: usize) -> f64 {
     let loaded = Sheet::load(readings, sizes);
     one_way(loaded.sheet.report(AnovaKind::Welch), i)
 }
 
-#[no_mangle]
+#[unsafe(no_mangle)]
 pub extern "C" fn call_sheet_report_levene(readings: &[f64], sizes: &[u32], i: usize) -> f64 {
     let loaded = Sheet::load(readings, sizes);
     one_way(loaded.sheet.report(AnovaKind::Levene), i)
 }
 
-#[no_mangle]
+#[unsafe(no_mangle)]
 pub extern "C" fn call_two_way_anova(
     values: &[f64],
     factor_a: &[u32],
@@ -226,7 +225,7 @@ pub extern "C" fn call_two_way_anova(
     )
 }
 
-#[no_mangle]
+#[unsafe(no_mangle)]
 pub extern "C" fn call_gauge_study(
     values: &[f64],
     factor_a: &[u32],
@@ -236,7 +235,7 @@ pub extern "C" fn call_gauge_study(
     studied(study::gauge_study(values, factor_a, factor_b, scratch))
 }
 
-#[no_mangle]
+#[unsafe(no_mangle)]
 pub extern "C" fn call_repeated_measures_anova(
     readings: &[f64],
     sizes: &[u32],
@@ -249,27 +248,27 @@ pub extern "C" fn call_repeated_measures_anova(
     )
 }
 
-#[no_mangle]
+#[unsafe(no_mangle)]
 pub extern "C" fn call_solve_linear_system(m: &mut [f64], n: usize) -> bool {
     matrix_linear::solve_linear_system(m, n).taken
 }
 
-#[no_mangle]
+#[unsafe(no_mangle)]
 pub extern "C" fn call_matrix_inverse(m: &mut [f64], n: usize) -> bool {
     matrix_linear::matrix_inverse(m, n).taken
 }
 
-#[no_mangle]
+#[unsafe(no_mangle)]
 pub extern "C" fn call_matrix_determinant(m: &mut [f64], n: usize) -> f64 {
     matrix_linear::matrix_determinant(m, n)
 }
 
-#[no_mangle]
+#[unsafe(no_mangle)]
 pub extern "C" fn call_orthonormalize(c: &mut [f64], p: usize, k: usize) -> bool {
     matrix_orthonormal::orthonormalize(c, p, k)
 }
 
-#[no_mangle]
+#[unsafe(no_mangle)]
 pub extern "C" fn call_matrix_multiply_csc(
     c: &[f64],
     s: &[f64],
@@ -280,38 +279,38 @@ pub extern "C" fn call_matrix_multiply_csc(
     matrix_product::matrix_multiply_csc(c, s, p, k, out)
 }
 
-#[no_mangle]
+#[unsafe(no_mangle)]
 pub extern "C" fn call_qr_decomposition(a: &[f64], n: usize, q: &mut [f64], r: &mut [f64]) -> bool {
     matrix_eigen::qr_decomposition(a, n, q, r)
 }
 
-#[no_mangle]
+#[unsafe(no_mangle)]
 pub extern "C" fn call_compute_eigenvalues(m: &mut [f64], n: usize, values: &mut [f64]) -> bool {
     matrix_eigen::compute_eigenvalues(m, n, values)
 }
 
-#[no_mangle]
+#[unsafe(no_mangle)]
 pub extern "C" fn call_group(readings: &[f64], sizes: &[u32], g: usize) -> usize {
     let view = oneway_checks::group(readings, sizes, g);
     view.len()
 }
 
-#[no_mangle]
+#[unsafe(no_mangle)]
 pub extern "C" fn call_group_refusal(readings: &[f64], sizes: &[u32], g: usize) -> u32 {
     oneway_checks::group_refusal(readings, sizes, g).number
 }
 
-#[no_mangle]
+#[unsafe(no_mangle)]
 pub extern "C" fn call_one_way_refusal(readings: &[f64], sizes: &[u32]) -> u32 {
     oneway_checks::one_way_refusal(readings, sizes).number
 }
 
-#[no_mangle]
+#[unsafe(no_mangle)]
 pub extern "C" fn call_repeated_refusal(readings: &[f64], sizes: &[u32]) -> u32 {
     repeated_checks::repeated_refusal(readings, sizes).number
 }
 
-#[no_mangle]
+#[unsafe(no_mangle)]
 pub extern "C" fn call_check_two_way_data(
     values: &[f64],
     a: &[u32],
@@ -323,7 +322,7 @@ pub extern "C" fn call_check_two_way_data(
     refusal.number
 }
 
-#[no_mangle]
+#[unsafe(no_mangle)]
 pub extern "C" fn call_read_set(set: &[u8], i: usize) -> f64 {
     let r = set::read_set(set);
     let readings = r.readings;
@@ -331,12 +330,12 @@ pub extern "C" fn call_read_set(set: &[u8], i: usize) -> f64 {
     reading + (r.refusal.number as f64)
 }
 
-#[no_mangle]
+#[unsafe(no_mangle)]
 pub extern "C" fn call_put_hex(out: &mut [u8], at: usize, x: u64) -> usize {
     text::put_hex(out, at, x)
 }
 
-#[no_mangle]
+#[unsafe(no_mangle)]
 pub extern "C" fn call_put_decimal(out: &mut [u8], at: usize, n: u64) -> usize {
     text::put_decimal(out, at, n)
 }
