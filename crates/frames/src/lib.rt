@@ -1,6 +1,6 @@
 // The public calls that C cannot call, each behind an exported function, so that each has a symbol. The doubles, the lists and the refusal's number of its
 // answer are used, so that the compiler keeps them; counts, flags and the refusal's details are not.
-// tools/stack builds this as a library of its own and reads its frames. The proof is the prover's own: no function here has a contract.
+// tools/stack builds this as a static library and reads its frames. The proof is the prover's own: no function here has a contract.
 // Place `i` of an answer's lists is added to its numbers: which place is not known before, so the whole list must be there.
 #![tactic(auto)]
 

@@ -1,6 +1,6 @@
 // The public functions that store or hand out doubles, each behind an exported one that makes that one call. All doubles of an answer go to memory that the
 // caller lends, as they are: an answer with lists has a part of that memory for its numbers and one for each list. Lent memory is lent on.
-// tests/nanbits/library builds this as a library of its own, tests/nanbits/list says which public function is missing here, and tests/nanbits/rawcalls.c reads
+// tests/nanbits/library builds this as a static library, tests/nanbits/list says which public function is missing here, and tests/nanbits/rawcalls.c reads
 // the bits. The proof is the prover's own: no function here has a contract.
 #![tactic(auto)]
 
