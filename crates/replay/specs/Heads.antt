@@ -1,5 +1,5 @@
 -- What is known of a head: its lists are within the limits, and its length is that of the case.
-use Rattle.std.specs.Prelude.{◌≡◌, ℕ, ◌+◌, ◌*◌, ◌≤◌}
+use Rattle.std.specs.Prelude.{◌≡◌, ◌+◌, ◌*◌, ◌≤◌}
 use Rattle.replay.specs.declared.cases.Head.{Head}
 
 pub record Small (h : Head) : Type 0 where

@@ -14,8 +14,8 @@ mod lists;
 mod matrix_blocks;
 mod stream;
 
-fn main() {
-    let mut buffer = io::large_buffer();
-    let mut out = io::large_buffer();
-    stream::run(&mut buffer, &mut out);
+fn main(rt: HostRuntime) {
+    let mut buffer = [0u8; 65536];
+    let mut out = [0u8; 65536];
+    stream::run(rt.stdin(), rt.stdout(), &mut buffer, &mut out);
 }

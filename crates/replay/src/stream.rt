@@ -4,6 +4,7 @@ ghost use Rattle.replay.specs.Streams.{Inside};
 
 use crate::cases;
 use crate::lines::Out;
+use std::io::{Print, Read, Stdin, Stdout};
 
 // How much of the answers' buffer may be used before it is written. Every answer fits into the other half: the longest is that of a sheet, with 200 edits of three
 // numbers, 512 places, 16 rows and two reports, and stays below 25,000 bytes.
@@ -27,7 +28,7 @@ pub struct Got {
 }
 
 // Nothing shows that an input ends, so the turns are counted down, from a number that no run uses up.
-pub fn run(buffer: &mut [u8], out: &mut Out) {
+pub fn run(input: Stdin, output: Stdout, buffer: &mut [u8], out: &mut Out) {
     let mut s = Stream {
         from: 0,
         to: 0,
@@ -37,14 +38,14 @@ pub fn run(buffer: &mut [u8], out: &mut Out) {
     };
     let mut turns = u64::MAX;
     while turns > 0 && s.going {
-        s = turn(buffer, out, s);
+        s = turn(input, output, buffer, out, s);
         turns -= 1;
     }
-    finish(out, s);
+    finish(output, out, s);
 }
 
 // One turn: answers the first case that is not yet answered, or reads on where it is not yet whole.
-fn turn(buffer: &mut [u8], out: &mut Out, s: Stream) -> Stream
+fn turn(input: Stdin, output: Stdout, buffer: &mut [u8], out: &mut Out, s: Stream) -> Stream
     requires { Inside s (length buffer.old) }
     ensures { Inside result (length buffer.old) }
 {
@@ -56,13 +57,13 @@ fn turn(buffer: &mut [u8], out: &mut Out, s: Stream) -> Stream
         return ended(s.at, true, 0);
     }
     if part.len() < h.length {
-        return read_on(buffer, s);
+        return read_on(input, buffer, s);
     }
     let at = cases::answer(out, s.at, part);
     Stream {
         from: from + h.length,
         to: to,
-        at: written(out, at, HALF),
+        at: written(output, out, at, HALF),
         going: true,
         broken: false,
     }
@@ -70,13 +71,13 @@ fn turn(buffer: &mut [u8], out: &mut Out, s: Stream) -> Stream
 
 // Reads once, behind the bytes that are not yet answered, which move to the front of the buffer first. Where nothing more comes, the
 // stream ends there, and is broken if a case has begun.
-fn read_on(buffer: &mut [u8], s: Stream) -> Stream
+fn read_on(input: Stdin, buffer: &mut [u8], s: Stream) -> Stream
     requires { Inside s (length buffer.old) }
     ensures { Inside result (length buffer.old) }
 {
     let rest = s.to - s.from;
     move_to_front(buffer, s.from, rest);
-    let got = read_behind(buffer, rest);
+    let got = read_behind(input, buffer, rest);
     if got.count > 0 {
         return Stream {
             from: 0,
@@ -101,15 +102,20 @@ fn move_to_front(buffer: &mut [u8], from: usize, count: usize)
 }
 
 // Reads once into the buffer's places from `rest` on.
-fn read_behind(buffer: &mut [u8], rest: usize) -> Got
+fn read_behind(input: Stdin, buffer: &mut [u8], rest: usize) -> Got
     requires { rest ≤ length buffer.old }
     ensures { rest + result.count ≤ length buffer.old }
 {
     let part = &mut buffer[rest..];
-    let got = libc::read(libc::STDIN_FILENO, part);
-    Got {
-        count: io::count(got, part),
-        failed: got < 0,
+    match (&input).read(part) {
+        Ok(count) => Got {
+            count: count,
+            failed: false,
+        },
+        Err(_) => Got {
+            count: 0,
+            failed: true,
+        },
     }
 }
 
@@ -127,23 +133,23 @@ fn ended(at: usize, failed: bool, rest: usize) -> Stream
 }
 
 // Writes what is left.
-fn finish(out: &mut Out, s: Stream) {
+fn finish(output: Stdout, out: &mut Out, s: Stream) {
     if !s.broken {
-        written(out, s.at, 0);
+        written(output, out, s.at, 0);
         return;
     }
     let at = text::put(out, s.at, b"broken stream\n");
-    written(out, at, 0);
+    written(output, out, at, 0);
 }
 
 // Writes the answers once they have come to `least` bytes, and says where the next one goes.
-fn written(out: &Out, at: usize, least: usize) -> usize {
+fn written(output: Stdout, out: &Out, at: usize, least: usize) -> usize {
     if at < least {
         return at;
     }
     if at <= 65536 {
         let all: &[u8] = out;
-        io::write_all(libc::STDOUT_FILENO, &all[..at]);
+        let _ = output.write_all(&all[..at]);
     }
     0
 }
