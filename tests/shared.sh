@@ -8,7 +8,7 @@ rust=$PWD/target/oracle/release
 # Some requests change answers of older kinds, so the oracle is told which are in the library: answers are as from this one on.
 since=W-203
 
-# rt builds for x86-64, whatever the machine is: the C compiler whose programs can be linked with our libraries, and what reads their code. tests/x86 runs such programs.
+# rt builds for x86-64: the C compiler whose programs can be linked with our libraries, and what reads their code. tests/x86 runs such programs.
 machine=$(uname -m)
 case $machine in
 x86_64) x86_cc=cc x86_objdump=objdump ;;
@@ -68,13 +68,13 @@ packed() {
     "$rust/stream" pack <"$work/made.lines"
 }
 
-# counted ALL COMMAND..: a run of rt, its lines as they come. A line that ends a crate, an edit or a program's run gets its number among ALL. What the prover says of a crate is shown
-# where the crate is not proved; a crate that is unchanged is counted and not shown. The status is the command's.
+# counted ALL LOG COMMAND..: a run of rt, its lines as they come; the file LOG has them all. A line that ends a crate or an edit gets its number among ALL. What the prover says of a crate is
+# shown where the crate is not proved. The status is the command's, and 1 where rt says that an edit is bad.
 counted() {
-    all=$1
-    shift
-    { code=0; "$@" 2>&1 || code=$?; echo "status $code"; } | {
-        n=0 shown=0 held='' code=1
+    all=$1 log=$2
+    shift 2
+    { code=0; "$@" 2>&1 || code=$?; echo "status $code"; } | tee "$log" | {
+        n=0 held='' code=1 bad=0
         while IFS= read -r line; do
             case $line in
             "status "*) code=${line#status }; continue ;;
@@ -83,49 +83,30 @@ counted() {
             *) held="$held$line
 "; continue ;;
             esac
-            case $line in "rt: "*" proved ("*) ;; *) printf '%s' "$held" ;; esac
+            case $line in
+            "rt: ok"*" bad"*) bad=1 ;;
+            "rt: "*" proved"* | "rt: "*" is kept: "*) held= ;;
+            "rt: must-fail "*": refused"*) held= ;;
+            esac
+            [ -z "$held" ] || printf '%s' "$held"
             held=
             case $line in
-            "rt: ok,"*) [ $shown = 0 ] || printf '%s\n' "$line" ;;
-            "rt: "*" proved (unchanged since it was last proved)") n=$((n + 1)) ;;
-            "rt: "*" proved"* | "rt: "*" NOT PROVED"* | "rt: "*" ran"* | "rt: must-fail "*)
-                n=$((n + 1)) shown=1
-                printf '[%3d of %d] %s\n' $n "$all" "$line"
+            "rt: "*" proved" | "rt: "*" is kept: "*"proved"* | "rt: "*" NOT PROVED"* | "rt: must-fail "*)
+                n=$((n + 1))
+                printf '[%3d of %d] %.160s\n' $n "$all" "$line"
                 ;;
             *) printf '%s\n' "$line" ;;
             esac
         done
         printf '%s' "$held"
+        [ $bad = 0 ] || { echo "rt: a must-fail edit is bad (above)"; [ "$code" != 0 ] || code=1; }
         exit "$code"
     }
 }
 
-# stands_on NAME: how many crates the crate NAME needs, itself among them.
-stands_on() {
-    awk -v name="$1" '
-        function visit(n,    i, k, list) {
-            if (seen[n]++ || !(n in deps)) return
-            count++
-            k = split(deps[n], list, " ")
-            for (i = 1; i <= k; i++) visit(list[i])
-        }
-        { sub(/#.*/, "") }
-        i = index($0, ":") { deps[substr($0, 1, i - 1)] = substr($0, i + 1) }
-        END { visit(name); print count }' crates.txt
-}
-
-# program NAME: proves target/bin/NAME and builds it, where its sources changed, or it is not there or not as rt left it. The status is 0; 9 where it is built and its stored run differs;
-# 1 where it is not proved.
-# rt leaves notes in target/log. Where it runs twice at once, RT_ROOM names a repository that shares all but that folder.
+# program NAME: proves the program NAME where its sources changed, and builds crates/NAME/out/NAME. The status is 0; 1 where it is not proved, and rt's words are shown.
 program() {
-    room=${RT_ROOM:-.}
-    if [ ! -x "target/bin/$1" ] || [ -n "$(find "target/bin/$1" -newer "target/stamp/$1" 2>/dev/null)" ]; then
-        rm -f "target/stamp/$1"
-    fi
-    rm -f "$room/target/log/$1.res"
-    if (cd "$room" && counted $(($(stands_on "$1") + 1)) rt check "$1"); then
-        return 0
-    fi
-    [ "$(cat "$room/target/log/$1.res" 2>/dev/null)" != built ] || return 9
-    return 1
+    mkdir -p target/log
+    say "$1 is proved and built"
+    (cd "crates/$1" && rt run </dev/null) >"target/log/$1" 2>&1 || { cat "target/log/$1"; return 1; }
 }

@@ -1,0 +1,35 @@
+-- The two lengths are asked first; then the answer is either a refusal or Fisher's five lines, and both fit into 256 places.
+use mathlib.Core.Path.{◌∙◌, ap}
+use Rattle.base.specs.declared.Refusal.{Refusal}
+use Rattle.fisherline.specs.Rows.{puts}
+use Rattle.fisherline.specs.Answers.{refused_text}
+use Rattle.fisherline.proofs.Short.{too_short, too_long, answers_refusal, answers_fisher}
+use Rattle.fisherline.proofs.Spaced.{puts_length}
+use Rattle.fisherline.proofs.answers.answer.Goals as goal
+
+pub returns-then-out-lt-ROOM : goal.returns-then-out-lt-ROOM
+returns-then-out-lt-ROOM c = too_short _ _ c.if-out-lt-ROOM.true
+
+pub shape_of-out-then-set-gt-LONGEST : goal.shape_of-out-then-set-gt-LONGEST
+shape_of-out-then-set-gt-LONGEST c = puts_length _ 0 _ c.refused.ensures
+
+pub returns-then-set-gt-LONGEST : goal.returns-then-set-gt-LONGEST
+returns-then-set-gt-LONGEST c =
+    too_long _ _ c.if-out-lt-ROOM.false c.if-set-gt-LONGEST.true
+    (c.refused.ensures ∙ ap (λ (r : Refusal). puts c.args.out.now 0 (refused_text r)) c.new.ensures)
+
+pub shape_of-out-then-r-ne0 : goal.shape_of-out-then-r-ne0
+shape_of-out-then-r-ne0 c = puts_length _ 0 _ c.refused-then-r-ne0.ensures
+
+pub returns-then-r-ne0 : goal.returns-then-r-ne0
+returns-then-r-ne0 c =
+    answers_refusal _ _ c.if-out-lt-ROOM.false c.if-set-gt-LONGEST.false c.set_anova-a.result c.set_anova-a.ensures
+    c.if-r-ne0.true c.refused-then-r-ne0.ensures
+
+pub shape_of-out : goal.shape_of-out
+shape_of-out c = puts_length _ 0 _ c.fisher.ensures
+
+pub returns : goal.returns
+returns c =
+    answers_fisher _ _ c.if-out-lt-ROOM.false c.if-set-gt-LONGEST.false c.set_anova-a.result c.set_anova-a.ensures
+    c.if-r-ne0.false c.fisher.ensures

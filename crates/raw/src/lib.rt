@@ -1,0 +1,832 @@
+// The public functions that store or hand out doubles, each behind an exported one that makes that one call. All doubles of an answer go to memory that the
+// caller lends, as they are: an answer with lists has a part of that memory for its numbers and one for each list. Lent memory is lent on.
+// tests/nanbits/library builds this as a static library, tests/nanbits/list says which public function is missing here, and tests/nanbits/rawcalls.c reads
+// the bits. The proof is the prover's own: no function here has a contract.
+#![tactic(auto)]
+
+use base::Refusal;
+use oneway::AnovaKind;
+use oneway_rows::Row;
+use repeated::RmAnovaResult;
+use results::{
+    AnovaTableRow, CorrectedResult, Corrections, Effects, OneWayAnovaResult, SphericityResult,
+};
+use sheet::{Edit, Sheet};
+use twoway::TwoWayAnovaResult;
+
+// ---- single floats
+
+#[unsafe(no_mangle)]
+pub extern "C" fn raw_canon(x: f64) -> f64 {
+    float::canon(x)
+}
+
+#[unsafe(no_mangle)]
+pub extern "C" fn raw_canon_places(m: &mut [f64], k: usize) {
+    float::canon_places(m, k);
+}
+
+#[unsafe(no_mangle)]
+pub extern "C" fn raw_abs(x: f64) -> f64 {
+    float::abs(x)
+}
+
+#[unsafe(no_mangle)]
+pub extern "C" fn raw_least(a: f64, b: f64) -> f64 {
+    float::least(a, b)
+}
+
+#[unsafe(no_mangle)]
+pub extern "C" fn raw_greatest(a: f64, b: f64) -> f64 {
+    float::greatest(a, b)
+}
+
+#[unsafe(no_mangle)]
+pub extern "C" fn raw_clamp(x: f64, low: f64, high: f64) -> f64 {
+    float::clamp(x, low, high)
+}
+
+#[unsafe(no_mangle)]
+pub extern "C" fn raw_power(x: f64, p: u32) -> f64 {
+    float::power(x, p)
+}
+
+#[unsafe(no_mangle)]
+pub extern "C" fn raw_float_of(n: u64) -> f64 {
+    float::float_of(n)
+}
+
+#[unsafe(no_mangle)]
+pub extern "C" fn raw_sqrt(x: f64) -> f64 {
+    root::sqrt(x)
+}
+
+// ---- lent memory
+
+#[unsafe(no_mangle)]
+pub extern "C" fn raw_put(out: &mut [f64], numbers: &[f64]) {
+    lent::put(out, numbers);
+}
+
+#[unsafe(no_mangle)]
+pub extern "C" fn raw_wipe(work: &mut [f64]) {
+    lent::wipe(work);
+}
+
+// ---- sums, means and variances
+
+#[unsafe(no_mangle)]
+pub extern "C" fn raw_sum(readings: &[f64]) -> f64 {
+    stats::sum(readings)
+}
+
+#[unsafe(no_mangle)]
+pub extern "C" fn raw_sq_dev(readings: &[f64], mean: f64) -> f64 {
+    stats::sq_dev(readings, mean)
+}
+
+#[unsafe(no_mangle)]
+pub extern "C" fn raw_mean(readings: &[f64], out: &mut [f64]) -> u32 {
+    let r = stats::mean(readings);
+    let numbers = [r.value];
+    lent::put(out, &numbers);
+    r.refusal.number
+}
+
+#[unsafe(no_mangle)]
+pub extern "C" fn raw_variance(readings: &[f64], out: &mut [f64]) -> u32 {
+    let r = stats::variance(readings);
+    let numbers = [r.value];
+    lent::put(out, &numbers);
+    r.refusal.number
+}
+
+// ---- one-way data: rows, analyses, the sheet, the reading set
+
+// 0 is Fisher's, 1 Welch's, and any other number Levene's.
+fn kind_of(kind: u32) -> AnovaKind {
+    match kind {
+        0 => AnovaKind::Fisher,
+        1 => AnovaKind::Welch,
+        _ => AnovaKind::Levene,
+    }
+}
+
+fn hand_out_one_way(r: OneWayAnovaResult, figures: &mut [f64], means: &mut [f64]) -> u32 {
+    let numbers = [
+        r.statistic,
+        r.df_between,
+        r.df_within,
+        r.ss_between,
+        r.ss_within,
+        r.ss_total,
+        r.ms_between,
+        r.ms_within,
+        r.grand_mean,
+    ];
+    let group_means = r.group_means;
+    lent::put(figures, &numbers);
+    lent::put(means, &group_means);
+    r.refusal.number
+}
+
+fn hand_out_rows(rows: [Row; 16], means: &mut [f64], sq_devs: &mut [f64]) {
+    let all_means = [
+        rows[0].mean,
+        rows[1].mean,
+        rows[2].mean,
+        rows[3].mean,
+        rows[4].mean,
+        rows[5].mean,
+        rows[6].mean,
+        rows[7].mean,
+        rows[8].mean,
+        rows[9].mean,
+        rows[10].mean,
+        rows[11].mean,
+        rows[12].mean,
+        rows[13].mean,
+        rows[14].mean,
+        rows[15].mean,
+    ];
+    let all_sq_devs = [
+        rows[0].sq_dev,
+        rows[1].sq_dev,
+        rows[2].sq_dev,
+        rows[3].sq_dev,
+        rows[4].sq_dev,
+        rows[5].sq_dev,
+        rows[6].sq_dev,
+        rows[7].sq_dev,
+        rows[8].sq_dev,
+        rows[9].sq_dev,
+        rows[10].sq_dev,
+        rows[11].sq_dev,
+        rows[12].sq_dev,
+        rows[13].sq_dev,
+        rows[14].sq_dev,
+        rows[15].sq_dev,
+    ];
+    lent::put(means, &all_means);
+    lent::put(sq_devs, &all_sq_devs);
+}
+
+// Row g of three lists; the empty row where a list is too short.
+fn row_at(sizes: &[u32], means: &[f64], sq_devs: &[f64], g: usize) -> Row {
+    if sizes.len() <= g {
+        return Row::empty();
+    }
+    if means.len() <= g {
+        return Row::empty();
+    }
+    if sq_devs.len() <= g {
+        return Row::empty();
+    }
+    Row {
+        size: sizes[g],
+        mean: means[g],
+        sq_dev: sq_devs[g],
+    }
+}
+
+fn rows_from(sizes: &[u32], means: &[f64], sq_devs: &[f64]) -> [Row; 16] {
+    [
+        row_at(sizes, means, sq_devs, 0),
+        row_at(sizes, means, sq_devs, 1),
+        row_at(sizes, means, sq_devs, 2),
+        row_at(sizes, means, sq_devs, 3),
+        row_at(sizes, means, sq_devs, 4),
+        row_at(sizes, means, sq_devs, 5),
+        row_at(sizes, means, sq_devs, 6),
+        row_at(sizes, means, sq_devs, 7),
+        row_at(sizes, means, sq_devs, 8),
+        row_at(sizes, means, sq_devs, 9),
+        row_at(sizes, means, sq_devs, 10),
+        row_at(sizes, means, sq_devs, 11),
+        row_at(sizes, means, sq_devs, 12),
+        row_at(sizes, means, sq_devs, 13),
+        row_at(sizes, means, sq_devs, 14),
+        row_at(sizes, means, sq_devs, 15),
+    ]
+}
+
+// A sheet that does not come from load: its readings and its rows are whatever the caller says.
+fn sheet_from(
+    readings: &[f64],
+    sizes: &[u32],
+    means: &[f64],
+    sq_devs: &[f64],
+    groups: usize,
+) -> Sheet {
+    let mut places = [0.0; 512];
+    lent::put(&mut places, readings);
+    let rows = rows_from(sizes, means, sq_devs);
+    Sheet {
+        places: places,
+        rows: rows,
+        groups: groups,
+    }
+}
+
+fn hand_out_edit(e: Edit, readings: &mut [f64], means: &mut [f64], sq_devs: &mut [f64]) -> u32 {
+    let sheet = e.sheet;
+    let places = sheet.places;
+    let rows = sheet.rows;
+    lent::put(readings, &places);
+    hand_out_rows(rows, means, sq_devs);
+    e.refusal.number
+}
+
+// The answer that carries a refusal alone.
+#[unsafe(no_mangle)]
+pub extern "C" fn raw_refused(number: u32, figures: &mut [f64], means: &mut [f64]) -> u32 {
+    hand_out_one_way(results::refused(Refusal::new(number, 0, 0)), figures, means)
+}
+
+// The row of no group, by its own type and by the sheet's.
+#[unsafe(no_mangle)]
+pub extern "C" fn raw_empty_rows(out: &mut [f64]) {
+    let r = Row::empty();
+    let s = Sheet::empty_row();
+    let numbers = [r.mean, r.sq_dev, s.mean, s.sq_dev];
+    lent::put(out, &numbers);
+}
+
+#[unsafe(no_mangle)]
+pub extern "C" fn raw_row_of(group: &[f64], out: &mut [f64]) -> u32 {
+    let r = Row::of(group);
+    let numbers = [r.mean, r.sq_dev];
+    lent::put(out, &numbers);
+    r.size
+}
+
+#[unsafe(no_mangle)]
+pub extern "C" fn raw_validate(
+    readings: &[f64],
+    sizes: &[u32],
+    means: &mut [f64],
+    sq_devs: &mut [f64],
+) -> u32 {
+    let s = oneway_rows::validate_anova_groups(readings, sizes);
+    let rows = s.rows;
+    hand_out_rows(rows, means, sq_devs);
+    s.refusal.number
+}
+
+#[unsafe(no_mangle)]
+pub extern "C" fn raw_one_way(
+    readings: &[f64],
+    sizes: &[u32],
+    kind: u32,
+    figures: &mut [f64],
+    means: &mut [f64],
+) -> u32 {
+    hand_out_one_way(
+        oneway::one_way_anova(readings, sizes, kind_of(kind)),
+        figures,
+        means,
+    )
+}
+
+#[unsafe(no_mangle)]
+pub extern "C" fn raw_report(
+    readings: &[f64],
+    sizes: &[u32],
+    means: &[f64],
+    sq_devs: &[f64],
+    k: usize,
+    kind: u32,
+    figures: &mut [f64],
+    out: &mut [f64],
+) -> u32 {
+    let rows = rows_from(sizes, means, sq_devs);
+    hand_out_one_way(
+        oneway::report(rows, k, readings, kind_of(kind)),
+        figures,
+        out,
+    )
+}
+
+#[unsafe(no_mangle)]
+pub extern "C" fn raw_sheet_load(
+    readings: &[f64],
+    sizes: &[u32],
+    places: &mut [f64],
+    means: &mut [f64],
+    sq_devs: &mut [f64],
+) -> u32 {
+    hand_out_edit(Sheet::load(readings, sizes), places, means, sq_devs)
+}
+
+// The edits 1 replace, 2 append and any other number remove, in place: the sheet lies in the three lists, and the one after the edit takes its place there.
+#[unsafe(no_mangle)]
+pub extern "C" fn raw_sheet_edit(
+    places: &mut [f64],
+    sizes: &[u32],
+    means: &mut [f64],
+    sq_devs: &mut [f64],
+    groups: usize,
+    op: u32,
+    group: usize,
+    place: usize,
+    x: f64,
+) -> u32 {
+    let s = sheet_from(places, sizes, means, sq_devs, groups);
+    if op == 1 {
+        return hand_out_edit(s.replace(group, place, x), places, means, sq_devs);
+    }
+    if op == 2 {
+        return hand_out_edit(s.append(group, x), places, means, sq_devs);
+    }
+    hand_out_edit(s.remove(group, place), places, means, sq_devs)
+}
+
+#[unsafe(no_mangle)]
+pub extern "C" fn raw_sheet_report(
+    places: &[f64],
+    sizes: &[u32],
+    means: &[f64],
+    sq_devs: &[f64],
+    groups: usize,
+    kind: u32,
+    figures: &mut [f64],
+    out: &mut [f64],
+) -> u32 {
+    let s = sheet_from(places, sizes, means, sq_devs, groups);
+    hand_out_one_way(s.report(kind_of(kind)), figures, out)
+}
+
+#[unsafe(no_mangle)]
+pub extern "C" fn raw_group(readings: &[f64], sizes: &[u32], g: usize, out: &mut [f64]) -> usize {
+    let view = oneway_checks::group(readings, sizes, g);
+    lent::put(out, view);
+    view.len()
+}
+
+#[unsafe(no_mangle)]
+pub extern "C" fn raw_read_set(set: &[u8], out: &mut [f64]) -> u32 {
+    let r = set::read_set(set);
+    let readings = r.readings;
+    lent::put(out, &readings);
+    r.refusal.number
+}
+
+#[unsafe(no_mangle)]
+pub extern "C" fn raw_set_anova(
+    set: &[u8],
+    kind: u32,
+    figures: &mut [f64],
+    means: &mut [f64],
+) -> u32 {
+    hand_out_one_way(set::set_anova(set, kind_of(kind)), figures, means)
+}
+
+// ---- lists of a length that the prover is told, so that it need not find it among a long function's facts
+
+fn put_6(out: &mut [f64], numbers: [f64; 6]) {
+    lent::put(out, &numbers);
+}
+
+fn put_12(out: &mut [f64], numbers: [f64; 12]) {
+    lent::put(out, &numbers);
+}
+
+fn put_36(out: &mut [f64], numbers: [f64; 36]) {
+    lent::put(out, &numbers);
+}
+
+fn put_64(out: &mut [f64], numbers: [f64; 64]) {
+    lent::put(out, &numbers);
+}
+
+// ---- tables, two-way analysis and the study
+
+fn hand_out_row(r: AnovaTableRow, out: &mut [f64]) {
+    let numbers = [r.ss, r.df, r.ms, r.f];
+    lent::put(out, &numbers);
+}
+
+fn hand_out_effects(e: Effects, out: &mut [f64]) {
+    let numbers = [e.ss_a, e.ss_b, e.ss_ab];
+    lent::put(out, &numbers);
+}
+
+// A count, where there is a place for it.
+fn put_count(counts: &mut [u64], i: usize, n: u64) {
+    if i < counts.len() {
+        counts[i] = n;
+    }
+}
+
+// A refusal and the counts beside it.
+fn hand_out_counts(refusal: Refusal, a: usize, b: usize, n: usize, counts: &mut [u64]) -> u32 {
+    put_count(counts, 0, refusal.number as u64);
+    put_count(counts, 1, refusal.first);
+    put_count(counts, 2, refusal.second);
+    put_count(counts, 3, a as u64);
+    put_count(counts, 4, b as u64);
+    put_count(counts, 5, n as u64);
+    refusal.number
+}
+
+// The readings of a cell, and 0 behind the last.
+fn count_at(cells: [usize; 36], cell: usize) -> usize {
+    if cell < 36 {
+        return cells[cell];
+    }
+    0
+}
+
+#[unsafe(no_mangle)]
+pub extern "C" fn raw_effect_row(ss: f64, df: f64, ms_error: f64, out: &mut [f64]) {
+    hand_out_row(results::effect_row(ss, df, ms_error), out);
+}
+
+#[unsafe(no_mangle)]
+pub extern "C" fn raw_plain_row(ss: f64, df: f64, out: &mut [f64]) {
+    hand_out_row(results::plain_row(ss, df), out);
+}
+
+#[unsafe(no_mangle)]
+pub extern "C" fn raw_no_row(out: &mut [f64]) {
+    hand_out_row(results::no_row(), out);
+}
+
+#[unsafe(no_mangle)]
+pub extern "C" fn raw_no_effects(out: &mut [f64]) {
+    hand_out_effects(results::no_effects(), out);
+}
+
+// How many readings cell `cell` has.
+#[unsafe(no_mangle)]
+pub extern "C" fn raw_organize(
+    values: &[f64],
+    factor_a: &[u32],
+    factor_b: &[u32],
+    cell: usize,
+    scratch: &mut [f64],
+    counts: &mut [u64],
+) -> usize {
+    let d = twoway_cells::organize_two_way_data(values, factor_a, factor_b, scratch);
+    let cells = d.cell_n;
+    hand_out_counts(d.refusal, d.levels_a, d.levels_b, d.n_total, counts);
+    count_at(cells, cell)
+}
+
+#[unsafe(no_mangle)]
+pub extern "C" fn raw_cell_table(
+    readings: &[f64],
+    counts: &[usize],
+    a: usize,
+    b: usize,
+    error: &mut [f64],
+    cells: &mut [f64],
+    means_a: &mut [f64],
+    means_b: &mut [f64],
+) {
+    let t = twoway_means::cell_table(readings, counts, a, b);
+    let cell_means = t.cell_means;
+    let all_a = t.marginal_means_a;
+    let all_b = t.marginal_means_b;
+    let numbers = [t.ss_error];
+    lent::put(error, &numbers);
+    put_36(cells, cell_means);
+    put_6(means_a, all_a);
+    put_6(means_b, all_b);
+}
+
+#[unsafe(no_mangle)]
+pub extern "C" fn raw_balanced_ss(means: &[f64], r: usize, a: usize, b: usize, out: &mut [f64]) {
+    hand_out_effects(twoway_balanced::balanced_ss(means, r, a, b), out);
+}
+
+#[unsafe(no_mangle)]
+pub extern "C" fn raw_normal_equations(
+    values: &[f64],
+    factor_a: &[u32],
+    factor_b: &[u32],
+    a: usize,
+    b: usize,
+    work: &mut [f64],
+) -> bool {
+    twoway_normal::normal_equations(values, factor_a, factor_b, a, b, work)
+}
+
+#[unsafe(no_mangle)]
+pub extern "C" fn raw_type3_ss(
+    values: &[f64],
+    factor_a: &[u32],
+    factor_b: &[u32],
+    a: usize,
+    b: usize,
+    work: &mut [f64],
+    out: &mut [f64],
+    counts: &mut [u64],
+) {
+    let e = twoway_type3::type3_ss(values, factor_a, factor_b, a, b, work);
+    hand_out_effects(e, out);
+    let s = e.skips;
+    put_count(counts, 0, s.solver as u64);
+    put_count(counts, 1, s.inverse as u64);
+    put_count(counts, 2, s.block_a as u64);
+    put_count(counts, 3, s.block_b as u64);
+    put_count(counts, 4, s.block_ab as u64);
+}
+
+fn hand_out_two_way(
+    r: TwoWayAnovaResult,
+    table: &mut [f64],
+    cells: &mut [f64],
+    means_a: &mut [f64],
+    means_b: &mut [f64],
+) {
+    let numbers = [
+        r.factor_a.ss,
+        r.factor_a.df,
+        r.factor_a.ms,
+        r.factor_a.f,
+        r.factor_b.ss,
+        r.factor_b.df,
+        r.factor_b.ms,
+        r.factor_b.f,
+        r.interaction.ss,
+        r.interaction.df,
+        r.interaction.ms,
+        r.interaction.f,
+        r.residual.ss,
+        r.residual.df,
+        r.residual.ms,
+        r.residual.f,
+        r.total.ss,
+        r.total.df,
+        r.total.ms,
+        r.total.f,
+        r.grand_mean,
+    ];
+    let cell_means = r.cell_means;
+    let all_a = r.marginal_means_a;
+    let all_b = r.marginal_means_b;
+    lent::put(table, &numbers);
+    put_36(cells, cell_means);
+    put_6(means_a, all_a);
+    put_6(means_b, all_b);
+}
+
+#[unsafe(no_mangle)]
+pub extern "C" fn raw_two_way(
+    values: &[f64],
+    factor_a: &[u32],
+    factor_b: &[u32],
+    scratch: &mut [f64],
+    table: &mut [f64],
+    cells: &mut [f64],
+    means_a: &mut [f64],
+    means_b: &mut [f64],
+    counts: &mut [u64],
+) -> u32 {
+    let r = twoway::two_way_anova(values, factor_a, factor_b, scratch);
+    hand_out_two_way(r, table, cells, means_a, means_b);
+    hand_out_counts(r.refusal, r.levels_a, r.levels_b, r.n, counts)
+}
+
+#[unsafe(no_mangle)]
+pub extern "C" fn raw_gauge_study(
+    values: &[f64],
+    factor_a: &[u32],
+    factor_b: &[u32],
+    scratch: &mut [f64],
+    out: &mut [f64],
+    counts: &mut [u64],
+) -> u32 {
+    let r = study::gauge_study(values, factor_a, factor_b, scratch);
+    let numbers = [
+        r.component_a,
+        r.component_b,
+        r.component_ab,
+        r.component_residual,
+        r.component_total,
+    ];
+    lent::put(out, &numbers);
+    hand_out_counts(r.refusal, r.meters, r.benches, r.readings, counts)
+}
+
+// ---- repeated measures
+
+fn hand_out_corrections(
+    w: SphericityResult,
+    gg: CorrectedResult,
+    hf: CorrectedResult,
+    out: &mut [f64],
+) {
+    let numbers = [
+        w.w,
+        w.df,
+        gg.epsilon,
+        gg.df_num_corrected,
+        gg.df_den_corrected,
+        gg.f_statistic,
+        hf.epsilon,
+        hf.df_num_corrected,
+        hf.df_den_corrected,
+        hf.f_statistic,
+    ];
+    lent::put(out, &numbers);
+}
+
+fn hand_out_all_corrections(c: Corrections, out: &mut [f64]) {
+    let w = c.sphericity;
+    let gg = c.greenhouse_geisser;
+    let hf = c.huynh_feldt;
+    hand_out_corrections(w, gg, hf, out);
+}
+
+#[unsafe(no_mangle)]
+pub extern "C" fn raw_rm_table(
+    readings: &[f64],
+    n: usize,
+    k: usize,
+    figures: &mut [f64],
+    subjects: &mut [f64],
+    conditions: &mut [f64],
+) {
+    let t = repeated_grid::rm_table(readings, n, k);
+    let subject_means = t.subject_means;
+    let condition_means = t.condition_means;
+    let numbers = [
+        t.grand_mean,
+        t.ss_total,
+        t.ss_subjects,
+        t.ss_conditions,
+        t.ss_error,
+    ];
+    lent::put(figures, &numbers);
+    put_64(subjects, subject_means);
+    put_12(conditions, condition_means);
+}
+
+#[unsafe(no_mangle)]
+pub extern "C" fn raw_corrections(
+    readings: &[f64],
+    means: &[f64],
+    n: usize,
+    k: usize,
+    f_stat: f64,
+    df_num: f64,
+    df_den: f64,
+    out: &mut [f64],
+) {
+    hand_out_all_corrections(
+        repeated_sphericity::compute_sphericity_corrections(
+            readings, means, n, k, f_stat, df_num, df_den,
+        ),
+        out,
+    );
+}
+
+#[unsafe(no_mangle)]
+pub extern "C" fn raw_no_corrections(out: &mut [f64]) {
+    hand_out_all_corrections(results::no_corrections(), out);
+}
+
+fn hand_out_repeated(
+    r: RmAnovaResult,
+    table: &mut [f64],
+    corrections: &mut [f64],
+    conditions: &mut [f64],
+    subjects: &mut [f64],
+) -> u32 {
+    let numbers = [
+        r.within_subjects.ss,
+        r.within_subjects.df,
+        r.within_subjects.ms,
+        r.within_subjects.f,
+        r.subjects.ss,
+        r.subjects.df,
+        r.subjects.ms,
+        r.subjects.f,
+        r.error.ss,
+        r.error.df,
+        r.error.ms,
+        r.error.f,
+        r.total.ss,
+        r.total.df,
+        r.total.ms,
+        r.total.f,
+        r.grand_mean,
+    ];
+    let w = r.sphericity;
+    let gg = r.greenhouse_geisser;
+    let hf = r.huynh_feldt;
+    let condition_means = r.condition_means;
+    let subject_means = r.subject_means;
+    lent::put(table, &numbers);
+    hand_out_corrections(w, gg, hf, corrections);
+    put_12(conditions, condition_means);
+    put_64(subjects, subject_means);
+    r.refusal.number
+}
+
+#[unsafe(no_mangle)]
+pub extern "C" fn raw_repeated(
+    readings: &[f64],
+    sizes: &[u32],
+    sphericity: u32,
+    table: &mut [f64],
+    corrections: &mut [f64],
+    conditions: &mut [f64],
+    subjects: &mut [f64],
+) -> u32 {
+    hand_out_repeated(
+        repeated::repeated_measures_anova(readings, sizes, sphericity == 1),
+        table,
+        corrections,
+        conditions,
+        subjects,
+    )
+}
+
+// ---- matrices
+
+#[unsafe(no_mangle)]
+pub extern "C" fn raw_solve(m: &mut [f64], n: usize) -> bool {
+    matrix_linear::solve_linear_system(m, n).taken
+}
+
+#[unsafe(no_mangle)]
+pub extern "C" fn raw_inverse(m: &mut [f64], n: usize) -> bool {
+    matrix_linear::matrix_inverse(m, n).taken
+}
+
+#[unsafe(no_mangle)]
+pub extern "C" fn raw_determinant(m: &mut [f64], n: usize) -> f64 {
+    matrix_linear::matrix_determinant(m, n)
+}
+
+#[unsafe(no_mangle)]
+pub extern "C" fn raw_dot(
+    x: &[f64],
+    p: usize,
+    s: usize,
+    y: &[f64],
+    q: usize,
+    t: usize,
+    n: usize,
+    z: f64,
+) -> f64 {
+    matrix_places::dot(x, p, s, y, q, t, n, z)
+}
+
+#[unsafe(no_mangle)]
+pub extern "C" fn raw_less_row(m: &mut [f64], p: usize, q: usize, f: f64, i: usize, w: usize) {
+    matrix_places::less_row(m, p, q, f, i, w);
+}
+
+#[unsafe(no_mangle)]
+pub extern "C" fn raw_over_row(m: &mut [f64], p: usize, d: f64, w: usize) {
+    matrix_places::over_row(m, p, d, w);
+}
+
+#[unsafe(no_mangle)]
+pub extern "C" fn raw_orthonormalize(c: &mut [f64], p: usize, k: usize) -> bool {
+    matrix_orthonormal::orthonormalize(c, p, k)
+}
+
+#[unsafe(no_mangle)]
+pub extern "C" fn raw_product(
+    a: &[f64],
+    b: &[f64],
+    u: usize,
+    t: usize,
+    n: usize,
+    l: usize,
+    w: usize,
+    out: &mut [f64],
+) {
+    matrix_product::product(a, b, u, t, n, l, w, out);
+}
+
+#[unsafe(no_mangle)]
+pub extern "C" fn raw_csc(c: &[f64], s: &[f64], p: usize, k: usize, out: &mut [f64]) -> bool {
+    matrix_product::matrix_multiply_csc(c, s, p, k, out)
+}
+
+#[unsafe(no_mangle)]
+pub extern "C" fn raw_qr(a: &[f64], n: usize, q: &mut [f64], r: &mut [f64]) -> bool {
+    matrix_eigen::qr_decomposition(a, n, q, r)
+}
+
+#[unsafe(no_mangle)]
+pub extern "C" fn raw_eigenvalues(m: &mut [f64], n: usize, values: &mut [f64]) -> bool {
+    matrix_eigen::compute_eigenvalues(m, n, values)
+}
+
+#[unsafe(no_mangle)]
+pub extern "C" fn raw_contrast_covariance(
+    readings: &[f64],
+    means: &[f64],
+    n: usize,
+    k: usize,
+    out: &mut [f64],
+) -> bool {
+    repeated_contrasts::contrast_covariance(readings, means, n, k, out)
+}

@@ -1,0 +1,19 @@
+use Prim.Native.Nat.{◌≤◌, ◌-◌, ◌+◌, ◌*◌}
+use mathlib.Core.Path.{◌≡◌}
+use lib.ListN.{length}
+use mathlib.Core.List.{map}
+use lib.ListN.{drop}
+use Rattle.base.specs.Lists as Lists
+use Rattle.base.specs.Lists.{over, words}
+use Rattle.base.proofs.Fills.{fill}
+use Rattle.results.specs.Results.{no_sizes}
+use Rattle.set.specs.Bytes.{little}
+use Rattle.set.proofs.sizes_in.Given as goal
+
+abbrev pub invariant-loop-g : goal.invariant-loop-g
+invariant-loop-g l =
+    (l.g ≤ l.k) × (length l.sizes ≡ 16) × (l.total ≤ l.g * 65535) × (l.total + Lists.total (drop l.g (map little (words 2 l.k l.bytes))) ≡ Lists.total (map little (words 2 l.k l.bytes)))
+    × (fill little (words 2 l.k l.bytes) l.sizes l.g ≡ over (map little (words 2 l.k l.bytes)) no_sizes)
+
+abbrev pub decreases-loop-g : goal.decreases-loop-g
+decreases-loop-g l = l.k - l.g
