@@ -1,13 +1,11 @@
 -- The two ways out of the call, behind its own check.
-use mathlib.Core.Path.{◌≡◌, refl}
-use mathlib.Core.Bool.{Bool}
-use mathlib.Core.List.{List, [], ◌∷◌}
+use mathlib.Core.Path.{◌≡◌}
+use mathlib.Core.List.{List}
 use Prim.Native.Nat.{ℕ, ◌≤◌}
-use native.Mathlib.Omega.{arith}
 use borrow.Author.Tests.{eq-eqb, ne_eqb, le-ltb}
 use lib.Dec.{eqb}
 use lib.Ieee.{Float}
-use lib.ListN.{length, set}
+use lib.ListN.{length}
 use Rattle.lent.specs.Laying.{laid}
 use Rattle.lent.proofs.Lays.{laid_room}
 use Rattle.repeated.specs.declared.RmAnovaResult.{RmAnovaResult}

@@ -13,7 +13,7 @@ use Rattle.sheet.specs.declared.Sheet.{Sheet}
 use Rattle.sheet.specs.declared.Edit.{Edit}
 use Rattle.sheet.specs.Calls.{call_of, called, report_of}
 use Rattle.sheet.specs.Calls.Call.{Replace, Append, Remove}
-use Rattle.speed_sheet.specs.Histories.{State, call_with, reported, reports_of, edits}
+use Rattle.speed_sheet.specs.Histories.{call_with, reported, reports_of, edits}
 
 -- what a list holds at a place that it has, whatever stands for a missing one
 pub there : {A : Type 0} (l : List A) (i : ℕ) (d e : A) → i < length l → get_or l i d ≡ get_or l i e

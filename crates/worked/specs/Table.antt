@@ -1,6 +1,6 @@
 -- Document 01, "Worked numbers", Levene's analysis of request W-201, the studies of W-203 and the skipped columns of W-204: one table of questions and answers, and one theorem that each answer is what the definitions give.
 use Rattle.std.specs.Prelude.{ℕ, ◌≡◌, refl, Bool, true, false, cond, Float, replicate}
-use mathlib.Core.List.{List, [], ◌∷◌, ◌++◌, map, flatten, foldl}
+use mathlib.Core.List.{List, [], ◌∷◌, ◌++◌, map, flatten}
 use Rattle.std.specs.Float.{binary64}
 use Rattle.std.specs.Float.Ieee.{of_bits, to_bits, add, sub, mul, div, neg, lt, of_int, is_nan}
 use Rattle.base.specs.Refusals.{first_fault, guarded}

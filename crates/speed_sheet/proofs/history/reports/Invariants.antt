@@ -1,0 +1,14 @@
+use Prim.Native.Nat.{◌-◌}
+use mathlib.Core.Path.{◌≡◌}
+use lib.ListN.{length}
+use Rattle.speed_sheet.specs.Histories.{reported}
+use Rattle.base.specs.Loop.{loop}
+use Rattle.speed_sheet.proofs.history.reports.Given as goal
+
+abbrev pub invariant-loop-i : goal.invariant-loop-i
+invariant-loop-i l =
+    (length l.out ≡ length l.initial.out)
+    × (loop l.i (length l.initial.out) (reported l.kind l.edits l.fresh) (record { sheet = l.sheet; out = l.out }) ≡ loop 0 (length l.initial.out) (reported l.kind l.edits l.fresh) (record { sheet = l.initial.sheet; out = l.initial.out }))
+
+abbrev pub decreases-loop-i : goal.decreases-loop-i
+decreases-loop-i l = length l.initial.out - l.i
