@@ -211,8 +211,8 @@ huge = 0x7FEE42D130773B76
 abbrev infinite : ℕ
 infinite = 0x7FF0000000000000
 
-abbrev not_aNumber : ℕ
-not_aNumber = 0x7FF8000000000000
+abbrev not_a_number : ℕ
+not_a_number = 0x7FF8000000000000
 
 -- a refusal's line: every other field is zero
 abbrev refusal : ℕ → ℕ → ℕ → List ℕ
@@ -251,15 +251,15 @@ lines =
     ∷ (OneWay Welch (n2 ∷ n2 ∷ n5 ∷ n7 ∷ []) (2 ∷ 2 ∷ []), welch n16 n1 n1 n2 n6)
     ∷ (OneWay Welch (n3 ∷ n3 ∷ n5 ∷ n7 ∷ []) (2 ∷ 2 ∷ []), welch infinite n1 n1 n3 n6)
     -- P5 Fisher {2,2},{2,2}; and {1,1},{3,3}
-    ∷ (OneWay Fisher (n2 ∷ n2 ∷ n2 ∷ n2 ∷ []) (2 ∷ 2 ∷ []), begins ++ not_aNumber ∷ n1 ∷ n2 ∷ 1 ∷ 0 ∷ 0 ∷ 0 ∷ 1 ∷ 0 ∷ 0 ∷ 1 ∷ n2 ∷ ends n2 n2)
+    ∷ (OneWay Fisher (n2 ∷ n2 ∷ n2 ∷ n2 ∷ []) (2 ∷ 2 ∷ []), begins ++ not_a_number ∷ n1 ∷ n2 ∷ 1 ∷ 0 ∷ 0 ∷ 0 ∷ 1 ∷ 0 ∷ 0 ∷ 1 ∷ n2 ∷ ends n2 n2)
     ∷ (OneWay Fisher (n1 ∷ n1 ∷ n3 ∷ n3 ∷ []) (2 ∷ 2 ∷ []), begins ++ infinite ∷ n1 ∷ n2 ∷ 1 ∷ n4 ∷ 0 ∷ n4 ∷ 1 ∷ n4 ∷ 0 ∷ 1 ∷ n2 ∷ ends n1 n3)
     -- W-201 Levene {1,2,6},{5,5,5}: the distances are 2, 1, 3 and 0, 0, 0
     ∷ (OneWay Levene (n1 ∷ n2 ∷ n6 ∷ n5 ∷ n5 ∷ n5 ∷ []) (3 ∷ 3 ∷ []), 0 ∷ 0 ∷ 0 ∷ 2 ∷ 6 ∷ n12 ∷ n1 ∷ n4 ∷ 1 ∷ n6 ∷ n2 ∷ n8 ∷ 1 ∷ n6 ∷ half ∷ 1 ∷ n1 ∷ 3 ∷ 3 ∷ replicate 14 0 ++ n2 ∷ 0 ∷ replicate 14 0)
     -- {1,3},{5,7}, where all distances are 1
-    ∷ (OneWay Levene (n1 ∷ n3 ∷ n5 ∷ n7 ∷ []) (2 ∷ 2 ∷ []), begins ++ not_aNumber ∷ n1 ∷ n2 ∷ 1 ∷ 0 ∷ 0 ∷ 0 ∷ 1 ∷ 0 ∷ 0 ∷ 1 ∷ n1 ∷ ends n1 n1)
+    ∷ (OneWay Levene (n1 ∷ n3 ∷ n5 ∷ n7 ∷ []) (2 ∷ 2 ∷ []), begins ++ not_a_number ∷ n1 ∷ n2 ∷ 1 ∷ 0 ∷ 0 ∷ 0 ∷ 1 ∷ 0 ∷ 0 ∷ 1 ∷ n1 ∷ ends n1 n1)
     -- {inf,1},{2,3}, whose first mean is infinite and whose first distance is a NaN; and {x,x},{2,3} with x = 1.7e308, whose first mean overflows: both distances from it are infinite
-    ∷ (OneWay Levene (infinite ∷ n1 ∷ n2 ∷ n3 ∷ []) (2 ∷ 2 ∷ []), begins ++ not_aNumber ∷ n1 ∷ n2 ∷ 1 ∷ not_aNumber ∷ not_aNumber ∷ not_aNumber ∷ 1 ∷ not_aNumber ∷ not_aNumber ∷ 1 ∷ not_aNumber ∷ ends not_aNumber half)
-    ∷ (OneWay Levene (huge ∷ huge ∷ n2 ∷ n3 ∷ []) (2 ∷ 2 ∷ []), begins ++ not_aNumber ∷ n1 ∷ n2 ∷ 1 ∷ not_aNumber ∷ not_aNumber ∷ not_aNumber ∷ 1 ∷ not_aNumber ∷ not_aNumber ∷ 1 ∷ infinite ∷ ends infinite half)
+    ∷ (OneWay Levene (infinite ∷ n1 ∷ n2 ∷ n3 ∷ []) (2 ∷ 2 ∷ []), begins ++ not_a_number ∷ n1 ∷ n2 ∷ 1 ∷ not_a_number ∷ not_a_number ∷ not_a_number ∷ 1 ∷ not_a_number ∷ not_a_number ∷ 1 ∷ not_a_number ∷ ends not_a_number half)
+    ∷ (OneWay Levene (huge ∷ huge ∷ n2 ∷ n3 ∷ []) (2 ∷ 2 ∷ []), begins ++ not_a_number ∷ n1 ∷ n2 ∷ 1 ∷ not_a_number ∷ not_a_number ∷ not_a_number ∷ 1 ∷ not_a_number ∷ not_a_number ∷ 1 ∷ infinite ∷ ends infinite half)
     -- P6 2x2, cells {1,3},{5,7},{3,5},{11,13}; and P7, its study
     ∷ (TwoWay p6 meters benches, 0 ∷ 0 ∷ 0 ∷ n32 ∷ n72 ∷ n8 ∷ n8 ∷ n120 ∷ n16 ∷ n36 ∷ n4 ∷ replicate 5 0)
     ∷ (Study p6 meters benches, 0 ∷ 0 ∷ 0 ∷ n6 ∷ n16 ∷ n3 ∷ n2 ∷ n27 ∷ [])
@@ -273,12 +273,12 @@ lines =
     -- P9 the subjects {1,3},{5,9}
     ∷ (Repeated false (n1 ∷ n3 ∷ n5 ∷ n9 ∷ []) (2 ∷ 2 ∷ []), 0 ∷ 0 ∷ 0 ∷ n9 ∷ n25 ∷ n1 ∷ n35 ∷ n9 ∷ 0 ∷ 0 ∷ 0 ∷ 0 ∷ [])
     -- P10 two subjects, three conditions, all zero, with sphericity: a hundred rounds of QR
-    ∷ (Repeated true (replicate 6 0) (3 ∷ 3 ∷ []), 0 ∷ 0 ∷ 0 ∷ 0 ∷ 0 ∷ 0 ∷ 0 ∷ not_aNumber ∷ 1 ∷ n1 ∷ n1 ∷ n1 ∷ [])
+    ∷ (Repeated true (replicate 6 0) (3 ∷ 3 ∷ []), 0 ∷ 0 ∷ 0 ∷ 0 ∷ 0 ∷ 0 ∷ 0 ∷ not_a_number ∷ 1 ∷ n1 ∷ n1 ∷ n1 ∷ [])
     -- P11 the roots of 4, of 2, of the smallest subnormal, and of -1
     ∷ (Root n4, n2 ∷ [])
     ∷ (Root n2, 0x3FF6A09E667F3BCD ∷ [])
     ∷ (Root 1, 0x1E60000000000000 ∷ [])
-    ∷ (Root 0xBFF0000000000000, not_aNumber ∷ [])
+    ∷ (Root 0xBFF0000000000000, not_a_number ∷ [])
     -- P12 one group; seventeen groups
     ∷ (OneWay Fisher (n1 ∷ n3 ∷ []) (2 ∷ []), refusal 3 1 0)
     ∷ (OneWay Fisher (replicate 34 n1) (replicate 17 2), refusal 11 1 17)
