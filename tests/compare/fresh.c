@@ -1,5 +1,5 @@
-/* fresh sheets | fresh reports: reads answers of kind 19, and asks for the sheets that they end with anew, from their `row` and `places` lines: as loads with no edit (kind 19), or as
-   Fisher's, Welch's and Levene's analysis of those readings (kinds 3, 4 and 18). The answers to that stream must be the same lines. */
+/* fresh sheets | fresh reports: reads answers of kind 10, and asks for the sheets that they end with anew, from their `row` and `places` lines: as loads with no edit (kind 10), or as
+   Fisher's and Welch's analysis of those readings (kinds 3 and 4). The answers to that stream must be the same lines. */
 #include <stdint.h>
 #include <stdio.h>
 #include <stdlib.h>
@@ -9,7 +9,7 @@ static void put32(uint32_t x) { for (int i = 0; i < 4; i++) putchar(x >> 8 * i &
 static void put64(uint64_t x) { put32(x), put32(x >> 32); }
 
 static void ask(uint32_t kind, uint32_t k, const uint32_t *sizes, uint32_t n, const uint64_t *readings) {
-    put32(kind), put32(kind == 19 ? n : 0), put32(k), put32(0), put32(0), put32(n);
+    put32(kind), put32(kind == 10 ? n : 0), put32(k), put32(0), put32(0), put32(n);
     for (uint32_t g = 0; g < k; g++) put32(sizes[g]);
     for (uint32_t i = 0; i < n; i++) put64(readings[i]);
 }
@@ -34,9 +34,9 @@ int main(int argc, char **argv) {
             readings[n] = strtoull(at, &at, 16);
         }
         if (sheets)
-            ask(19, k, sizes, n, readings);
+            ask(10, k, sizes, n, readings);
         else
-            ask(3, k, sizes, n, readings), ask(4, k, sizes, n, readings), ask(18, k, sizes, n, readings);
+            ask(3, k, sizes, n, readings), ask(4, k, sizes, n, readings);
     }
     return 0;
 }

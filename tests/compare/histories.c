@@ -1,4 +1,4 @@
-/* histories SEED COUNT: sheets with edits and all three reports (kind 19), as a stream. Loads of 16 groups of 32, of groups of two, of 510 to 512 readings, and loads that are refused; up to 200 edits
+/* histories SEED COUNT: sheets with edits (kind 10), as a stream. Loads of 16 groups of 32, of groups of two, of 510 to 512 readings, and loads that are refused; up to 200 edits
    each, where groups fill up, shrink to two, or are not there; new readings of every sort, with NaNs, infinities, zeros of both signs and subnormals, or missing. */
 #include <stdint.h>
 #include <stdio.h>
@@ -116,7 +116,7 @@ int main(int argc, char **argv) {
         case 7: sizes[1] += sizes[0], sizes[0] = below(2), sizes[1] -= sizes[0]; break;
         default: readings[below(total)] = nan_bits();
         }
-        put32(19), put32(option), put32(ns), put32(na), put32(0), put32(nr);
+        put32(10), put32(option), put32(ns), put32(na), put32(0), put32(nr);
         for (uint32_t i = 0; i < ns; i++) put32(sizes[i]);
         for (uint32_t i = 0; i < na; i++) put32(edits[i]);
         for (uint32_t i = 0; i < nr; i++) put64(readings[i]);

@@ -1,4 +1,4 @@
--- Document 01, "Worked numbers", Levene's analysis of request W-201, the studies of W-203 and the skipped columns of W-204: one table of questions and answers, and one theorem that each answer is what the definitions give.
+-- Document 01, "Worked numbers", the studies of request W-203 and the skipped columns of W-204: one table of questions and answers, and one theorem that each answer is what the definitions give.
 use Rattle.std.specs.Prelude.{ℕ, ◌≡◌, refl, Bool, true, false, cond, Float, replicate}
 use mathlib.Core.List.{List, [], ◌∷◌, ◌++◌, map, flatten}
 use Rattle.std.specs.Float.{binary64}
@@ -253,13 +253,6 @@ lines =
     -- P5 Fisher {2,2},{2,2}; and {1,1},{3,3}
     ∷ (OneWay Fisher (n2 ∷ n2 ∷ n2 ∷ n2 ∷ []) (2 ∷ 2 ∷ []), begins ++ not_a_number ∷ n1 ∷ n2 ∷ 1 ∷ 0 ∷ 0 ∷ 0 ∷ 1 ∷ 0 ∷ 0 ∷ 1 ∷ n2 ∷ ends n2 n2)
     ∷ (OneWay Fisher (n1 ∷ n1 ∷ n3 ∷ n3 ∷ []) (2 ∷ 2 ∷ []), begins ++ infinite ∷ n1 ∷ n2 ∷ 1 ∷ n4 ∷ 0 ∷ n4 ∷ 1 ∷ n4 ∷ 0 ∷ 1 ∷ n2 ∷ ends n1 n3)
-    -- W-201 Levene {1,2,6},{5,5,5}: the distances are 2, 1, 3 and 0, 0, 0
-    ∷ (OneWay Levene (n1 ∷ n2 ∷ n6 ∷ n5 ∷ n5 ∷ n5 ∷ []) (3 ∷ 3 ∷ []), 0 ∷ 0 ∷ 0 ∷ 2 ∷ 6 ∷ n12 ∷ n1 ∷ n4 ∷ 1 ∷ n6 ∷ n2 ∷ n8 ∷ 1 ∷ n6 ∷ half ∷ 1 ∷ n1 ∷ 3 ∷ 3 ∷ replicate 14 0 ++ n2 ∷ 0 ∷ replicate 14 0)
-    -- {1,3},{5,7}, where all distances are 1
-    ∷ (OneWay Levene (n1 ∷ n3 ∷ n5 ∷ n7 ∷ []) (2 ∷ 2 ∷ []), begins ++ not_a_number ∷ n1 ∷ n2 ∷ 1 ∷ 0 ∷ 0 ∷ 0 ∷ 1 ∷ 0 ∷ 0 ∷ 1 ∷ n1 ∷ ends n1 n1)
-    -- {inf,1},{2,3}, whose first mean is infinite and whose first distance is a NaN; and {x,x},{2,3} with x = 1.7e308, whose first mean overflows: both distances from it are infinite
-    ∷ (OneWay Levene (infinite ∷ n1 ∷ n2 ∷ n3 ∷ []) (2 ∷ 2 ∷ []), begins ++ not_a_number ∷ n1 ∷ n2 ∷ 1 ∷ not_a_number ∷ not_a_number ∷ not_a_number ∷ 1 ∷ not_a_number ∷ not_a_number ∷ 1 ∷ not_a_number ∷ ends not_a_number half)
-    ∷ (OneWay Levene (huge ∷ huge ∷ n2 ∷ n3 ∷ []) (2 ∷ 2 ∷ []), begins ++ not_a_number ∷ n1 ∷ n2 ∷ 1 ∷ not_a_number ∷ not_a_number ∷ not_a_number ∷ 1 ∷ not_a_number ∷ not_a_number ∷ 1 ∷ infinite ∷ ends infinite half)
     -- P6 2x2, cells {1,3},{5,7},{3,5},{11,13}; and P7, its study
     ∷ (TwoWay p6 meters benches, 0 ∷ 0 ∷ 0 ∷ n32 ∷ n72 ∷ n8 ∷ n8 ∷ n120 ∷ n16 ∷ n36 ∷ n4 ∷ replicate 5 0)
     ∷ (Study p6 meters benches, 0 ∷ 0 ∷ 0 ∷ n6 ∷ n16 ∷ n3 ∷ n2 ∷ n27 ∷ [])
@@ -298,5 +291,21 @@ abbrev given : Line → List ℕ
 given l = l.1
 
 pub worked : map asked lines ≡ map given lines
-unfolding answer refused_result type3Ss factor_fits type3Fits effects_from beta inverse solved_skips wald_row wald_sum cov_inv cov_skips pivot_skips before_column skipped_in skipped_of row_of normal_at normal_system places table half_of left_half effect_code codes_from products_of products design_row lentZeros zero_right unit_row unit clear_other clear_others scaled reduced full_column full_columns matrix_inverse cleared column forward back_sum back_value back_row backward solve_linear_system swap_rows better pivot_row pivoted clear_row clear_below repeated_measures_anova repeatedAnswer repeated_refusal design_refusal first_fault subject_fault no_subjects no_conditions subject_means condition_sum condition_means ss_total ss_subjects ss_conditions part compute_sphericity_corrections corrections_of cscHere gg_of values gg_raw epsilon_gg hf_raw usable epsilon_hf trace mean_trace det w_raw mauchly_w df_w matrix_determinant det_of two_by_two abs_of is_finite least_of greatest_of clamp_of power_from power_of contrast_covariance fits through_contrasts orthonormal_contrasts contrasts contrast_rows contrast_row cov_matrix cov_rows cov_row no_covariances covariance cov_sum compute_eigenvalues diagonal rounds round qr_here zeros qr_columns qr_column remains normalize new_column put_column projections project less_column column_of blank_column matrix_multiply_csc csc blank product product_row orthonormalize orthonormal_rows orthonormal_row normalize_row project_rows project_row over_row less_row refuses dot lent two_way_anova squares_of answer_of two_way_refusal shape_refusal levels_refusal cells_refusal largest cells cell numbers tally_line listed no_levels no_cells margins cell_means ss_error unlike other_count mean_line mean_margins ab_row ss_ab balanced_ss balance_refusal study_refusal component_of components_of gauge_study loop turns one_way_anova anova fisher_anova welch_anova levene_anova distances flatten no_sizes no_means one_way_refusal sizes_refusal group_fault guarded total cut some sum_by sqrt_of of_bits to_bits add sub mul div neg lt of_int is_nan
+unfolding answer refused_result type3Ss factor_fits type3Fits effects_from beta inverse solved_skips wald_row wald_sum cov_inv cov_skips pivot_skips before_column skipped_in skipped_of row_of normal_at normal_system places table half_of left_half effect_code codes_from products_of products design_row lentZeros zero_right unit_row unit clear_other clear_others scaled reduced full_column full_columns matrix_inverse cleared column forward back_sum back_value back_row backward solve_linear_system swap_rows better pivot_row pivoted clear_row clear_below repeated_measures_anova repeatedAnswer repeated_refusal design_refusal first_fault subject_fault no_subjects no_conditions subject_means condition_sum condition_means ss_total ss_subjects ss_conditions part compute_sphericity_corrections corrections_of cscHere gg_of values gg_raw epsilon_gg hf_raw usable epsilon_hf trace mean_trace det w_raw mauchly_w df_w matrix_determinant det_of two_by_two abs_of is_finite least_of greatest_of clamp_of power_from power_of contrast_covariance fits through_contrasts orthonormal_contrasts contrasts contrast_rows contrast_row cov_matrix cov_rows cov_row no_covariances covariance cov_sum compute_eigenvalues diagonal rounds round qr_here zeros qr_columns qr_column remains normalize new_column put_column projections project less_column column_of blank_column matrix_multiply_csc csc blank product product_row orthonormalize orthonormal_rows orthonormal_row normalize_row project_rows project_row over_row less_row refuses dot lent two_way_anova squares_of answer_of two_way_refusal shape_refusal levels_refusal cells_refusal largest cells cell numbers tally_line listed no_levels no_cells margins cell_means ss_error unlike other_count mean_line mean_margins ab_row ss_ab balanced_ss balance_refusal study_refusal component_of components_of gauge_study loop turns one_way_anova anova fisher_anova welch_anova no_sizes no_means one_way_refusal sizes_refusal group_fault guarded total cut some sum_by sqrt_of of_bits to_bits add sub mul div neg lt of_int is_nan
 worked = refl
+
+-- Levene's analysis, of request W-201
+abbrev levene_lines : List Line
+levene_lines =
+    -- W-201 Levene {1,2,6},{5,5,5}: the distances are 2, 1, 3 and 0, 0, 0
+    (OneWay Levene (n1 ∷ n2 ∷ n6 ∷ n5 ∷ n5 ∷ n5 ∷ []) (3 ∷ 3 ∷ []), 0 ∷ 0 ∷ 0 ∷ 2 ∷ 6 ∷ n12 ∷ n1 ∷ n4 ∷ 1 ∷ n6 ∷ n2 ∷ n8 ∷ 1 ∷ n6 ∷ half ∷ 1 ∷ n1 ∷ 3 ∷ 3 ∷ replicate 14 0 ++ n2 ∷ 0 ∷ replicate 14 0)
+    -- {1,3},{5,7}, where all distances are 1
+    ∷ (OneWay Levene (n1 ∷ n3 ∷ n5 ∷ n7 ∷ []) (2 ∷ 2 ∷ []), begins ++ not_a_number ∷ n1 ∷ n2 ∷ 1 ∷ 0 ∷ 0 ∷ 0 ∷ 1 ∷ 0 ∷ 0 ∷ 1 ∷ n1 ∷ ends n1 n1)
+    -- {inf,1},{2,3}, whose first mean is infinite and whose first distance is a NaN; and {x,x},{2,3} with x = 1.7e308, whose first mean overflows: both distances from it are infinite
+    ∷ (OneWay Levene (infinite ∷ n1 ∷ n2 ∷ n3 ∷ []) (2 ∷ 2 ∷ []), begins ++ not_a_number ∷ n1 ∷ n2 ∷ 1 ∷ not_a_number ∷ not_a_number ∷ not_a_number ∷ 1 ∷ not_a_number ∷ not_a_number ∷ 1 ∷ not_a_number ∷ ends not_a_number half)
+    ∷ (OneWay Levene (huge ∷ huge ∷ n2 ∷ n3 ∷ []) (2 ∷ 2 ∷ []), begins ++ not_a_number ∷ n1 ∷ n2 ∷ 1 ∷ not_a_number ∷ not_a_number ∷ not_a_number ∷ 1 ∷ not_a_number ∷ not_a_number ∷ 1 ∷ infinite ∷ ends infinite half)
+    ∷ []
+
+pub worked_levene : map asked levene_lines ≡ map given levene_lines
+unfolding answer one_way_anova anova levene_anova fisher_anova distances flatten no_sizes no_means one_way_refusal sizes_refusal group_fault guarded first_fault total cut some sum_by row_of abs_of refused_result of_bits to_bits add sub mul div neg lt of_int is_nan
+worked_levene = refl
