@@ -7,7 +7,7 @@ use crate::lines::Out;
 use std::io::{Print, Read, Stdin, Stdout};
 
 // How much of the answers' buffer may be used before it is written. Every answer fits into the other half: the longest is that of a sheet, with 200 edits of three
-// numbers, 512 places, 16 rows and two reports, and stays below 25,000 bytes.
+// numbers, 512 places, 16 rows and three reports, and stays below 25,000 bytes.
 const HALF: usize = 32768;
 
 // The buffer's bytes from..to are read and not yet answered; the first `at` bytes of the other buffer are answers not yet written.

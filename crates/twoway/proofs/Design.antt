@@ -23,7 +23,7 @@ use Rattle.float.specs.Words.{plus_zero}
 use Rattle.twoway_means.specs.Table.{cell_table, table_fits, table_of, cell_mean, cell_means, no_cells}
 use Rattle.twoway_normal.specs.Shape.{fits, factor_fits}
 use Rattle.lent.specs.Wiping.{wiped, zeros}
-use Rattle.twoway_type3.specs.Answer.{type3Ss, all_effects}
+use Rattle.twoway_type3.specs.Answer.{type3_ss, all_effects}
 use Rattle.twoway.specs.declared.TwoWayAnovaResult.{TwoWayAnovaResult}
 use Rattle.twoway.specs.Results.{answer_of, refused_result}
 use Rattle.twoway.specs.Inner.{Small, Ready, squares_left}
@@ -32,8 +32,8 @@ use Rattle.twoway.proofs.Counts.{some}
 
 -- Type III takes a design that is ready
 pub type3_fits : (xs : List Float) (us vs ns : List ℕ) (a b : ℕ) (scratch : List Float) → Ready xs us vs ns a b scratch
-    → type3Ss xs us vs a b scratch ≡ (wiped scratch, all_effects xs us vs a b)
-unfolding type3Ss fits factor_fits
+    → type3_ss xs us vs a b scratch ≡ (wiped scratch, all_effects xs us vs a b)
+unfolding type3_ss fits factor_fits
 type3_fits xs us vs ns a b scratch r =
     rw (le-leb 2 a r.least_a, le-leb a 6 r.most_a, eq-eqb (length us) (length xs) r.codes_a, le-leb 2 b r.least_b, le-leb b 6 r.most_b, eq-eqb (length vs) (length xs) r.codes_b, le-leb (length xs) 512 r.few, le-leb 6400 (length scratch) r.room)
 
@@ -43,7 +43,7 @@ module _ (xs : List Float) (us vs : List ℕ) (a b : ℕ) (ms : List Float) (ns 
   unfolding squares_of
   balanced_way e q w p = rw (w, p, eq-eqb (other_count ns) (get_or ns 0 0) (sym told ∙ q))
 
-  pub type3_way : (e : Effects) → (o ≡ get_or ns 0 0 → ⊥) → Ready xs us vs ns a b scratch → ◌≡◌ {A = List Float × Effects} (left, e) (type3Ss xs us vs a b scratch)
+  pub type3_way : (e : Effects) → (o ≡ get_or ns 0 0 → ⊥) → Ready xs us vs ns a b scratch → ◌≡◌ {A = List Float × Effects} (left, e) (type3_ss xs us vs a b scratch)
       → ◌≡◌ {A = List Float × Effects} (left, e) (squares_left xs us vs a b ms ns scratch)
   unfolding squares_of
   type3_way e q r p =

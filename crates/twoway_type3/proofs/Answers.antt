@@ -18,14 +18,14 @@ use Rattle.twoway_normal.specs.Inner.{Fitting}
 use Rattle.twoway_normal.specs.Shape.{fits}
 use Rattle.twoway_normal.proofs.Keeping.{rows_room}
 use Rattle.twoway_normal.proofs.Laid.{laid_system_lem, laid_length, laid_wiped, equations_taken}
-use Rattle.twoway_type3.specs.Answer.{effects_from, all_effects, type3Ss}
+use Rattle.twoway_type3.specs.Answer.{effects_from, all_effects, type3_ss}
 
 module _ (values : List Float) (us vs : List ℕ) (a b : ℕ) (work : List Float) {w : List Float} {r : Bool} (e : (w, r) ≡ normal_equations values us vs a b work) where
   abbrev asked : Bool
   asked = fits (length values) (length us) (length vs) a b (length work)
 
-  pub not_taken_lem : {d : Effects} → r ≡ false → d ≡ no_effects → ◌≡◌ {A = List Float × Effects} (w, d) (type3Ss values us vs a b work)
-  unfolding normal_equations type3Ss
+  pub not_taken_lem : {d : Effects} → r ≡ false → d ≡ no_effects → ◌≡◌ {A = List Float × Effects} (w, d) (type3_ss values us vs a b work)
+  unfolding normal_equations type3_ss
   not_taken_lem {d} f q = go asked e
     where
       go : (t : Bool) → ◌≡◌ {A = List Float × Bool} (w, r) (cond t (laid_system values us vs a b work, true) (work, false)) → ◌≡◌ {A = List Float × Effects} (w, d) (cond t (wiped work, all_effects values us vs a b) (work, no_effects))
@@ -34,8 +34,8 @@ module _ (values : List Float) (us vs : List ℕ) (a b : ℕ) (work : List Float
 
   -- x is what the effects left in the first 6,400 places, and v the memory once it is wiped
   pub taken : (x : List Float) {v : List Float} {d : Effects} → r ≡ true → length x ≡ scratch_places → d ≡ effects_from (part 0 (a * b * (a * b + 1)) (take scratch_places (drop 0 w))) a b → v ≡ wiped (x ++ drop scratch_places w)
-      → ◌≡◌ {A = List Float × Effects} (v, d) (type3Ss values us vs a b work)
-  unfolding normal_equations type3Ss part
+      → ◌≡◌ {A = List Float × Effects} (v, d) (type3_ss values us vs a b work)
+  unfolding normal_equations type3_ss part
   taken x {v} {d} f l q p = go asked e
     where
       go : (t : Bool) → ◌≡◌ {A = List Float × Bool} (w, r) (cond t (laid_system values us vs a b work, true) (work, false)) → ◌≡◌ {A = List Float × Effects} (v, d) (cond t (wiped work, all_effects values us vs a b) (work, no_effects))

@@ -58,6 +58,6 @@ abbrev pub all_effects : List Float → List ℕ → List ℕ → ℕ → ℕ �
 all_effects values us vs a b = effects_from (normal_system values us vs a b) a b
 
 -- the memory after the call, and the sums of squares
-unfoldable pub type3Ss : List Float → List ℕ → List ℕ → ℕ → ℕ → List Float → List Float × Effects
-type3Ss values us vs a b work =
+unfoldable pub type3_ss : List Float → List ℕ → List ℕ → ℕ → ℕ → List Float → List Float × Effects
+type3_ss values us vs a b work =
     cond (fits (length values) (length us) (length vs) a b (length work)) (wiped work, all_effects values us vs a b) (work, no_effects)

@@ -5,7 +5,7 @@ mod half;
 mod wald;
 
 ghost use Rattle.std.specs.Prelude.{◌≡◌};
-ghost use Rattle.twoway_type3.specs.Answer.{type3Ss};
+ghost use Rattle.twoway_type3.specs.Answer.{type3_ss};
 
 use results::Effects;
 
@@ -19,7 +19,7 @@ pub fn type3_ss(
     b: usize,
     work: &mut [f64],
 ) -> Effects
-    ensures { (work.new, result) ≡ type3Ss values.now factor_a.now factor_b.now a b work.old }
+    ensures { (work.new, result) ≡ type3_ss values.now factor_a.now factor_b.now a b work.old }
 {
     if twoway_normal::normal_equations(values, factor_a, factor_b, a, b, work) {
         let e = wald::all_effects(a, b, &mut work[0..base::SCRATCH_PLACES]);

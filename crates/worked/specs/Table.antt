@@ -40,10 +40,10 @@ use Rattle.lent.specs.Wiping.{zeros as lentZeros}
 use Rattle.twoway_normal.specs.Coding.{effect_code, codes_from, products_of, products, design_row}
 use Rattle.twoway_normal.specs.Tables.{places, table}
 use Rattle.twoway_normal.specs.Normal.{row_of, normal_at, normal_system}
-use Rattle.twoway_normal.specs.Shape.{factor_fits, fits as type3Fits}
+use Rattle.twoway_normal.specs.Shape.{factor_fits, fits as type3_fits}
 use Rattle.twoway_type3.specs.Matrices.{half_of, left_half}
 use Rattle.twoway_type3.specs.Wald.{wald_row, wald_sum, cov_inv, cov_skips}
-use Rattle.twoway_type3.specs.Answer.{beta, inverse, solved_skips, effects_from, type3Ss}
+use Rattle.twoway_type3.specs.Answer.{beta, inverse, solved_skips, effects_from, type3_ss}
 use Rattle.repeated_checks.specs.Checks.{design_refusal, subject_fault, repeated_refusal}
 use Rattle.repeated_grid.specs.Table.{no_subjects, no_conditions, subject_means, condition_sum, condition_means, ss_total, ss_subjects, ss_conditions}
 use Rattle.matrix_places.specs.Places.{refuses, dot, less_row, over_row}
@@ -130,7 +130,7 @@ answer (Root x) = shown (sqrt_of (of_bits binary64 x)) ∷ []
 answer (TwoWay xs us vs) = two_way_line (two_way_anova (map (of_bits binary64) xs) us vs lent).1
 answer (Study xs us vs) = study_line (gauge_study (map (of_bits binary64) xs) us vs lent).1
 answer (Repeated wanted xs ns) = repeated_line (repeated_measures_anova (map (of_bits binary64) xs) ns wanted)
-answer (TypeIII us vs a b) = skips_line (type3Ss (map (λ (u : ℕ). plus_zero) us) us vs a b lent).1.skips
+answer (TypeIII us vs a b) = skips_line (type3_ss (map (λ (u : ℕ). plus_zero) us) us vs a b lent).1.skips
 answer (System n xs) = matrix_line (solve_linear_system n (map (of_bits binary64) xs))
 answer (Inverse n xs) = matrix_line (matrix_inverse n (map (of_bits binary64) xs))
 
@@ -291,7 +291,7 @@ abbrev given : Line → List ℕ
 given l = l.1
 
 pub worked : map asked lines ≡ map given lines
-unfolding answer refused_result type3Ss factor_fits type3Fits effects_from beta inverse solved_skips wald_row wald_sum cov_inv cov_skips pivot_skips before_column skipped_in skipped_of row_of normal_at normal_system places table half_of left_half effect_code codes_from products_of products design_row lentZeros zero_right unit_row unit clear_other clear_others scaled reduced full_column full_columns matrix_inverse cleared column forward back_sum back_value back_row backward solve_linear_system swap_rows better pivot_row pivoted clear_row clear_below repeated_measures_anova repeatedAnswer repeated_refusal design_refusal first_fault subject_fault no_subjects no_conditions subject_means condition_sum condition_means ss_total ss_subjects ss_conditions part compute_sphericity_corrections corrections_of cscHere gg_of values gg_raw epsilon_gg hf_raw usable epsilon_hf trace mean_trace det w_raw mauchly_w df_w matrix_determinant det_of two_by_two abs_of is_finite least_of greatest_of clamp_of power_from power_of contrast_covariance fits through_contrasts orthonormal_contrasts contrasts contrast_rows contrast_row cov_matrix cov_rows cov_row no_covariances covariance cov_sum compute_eigenvalues diagonal rounds round qr_here zeros qr_columns qr_column remains normalize new_column put_column projections project less_column column_of blank_column matrix_multiply_csc csc blank product product_row orthonormalize orthonormal_rows orthonormal_row normalize_row project_rows project_row over_row less_row refuses dot lent two_way_anova squares_of answer_of two_way_refusal shape_refusal levels_refusal cells_refusal largest cells cell numbers tally_line listed no_levels no_cells margins cell_means ss_error unlike other_count mean_line mean_margins ab_row ss_ab balanced_ss balance_refusal study_refusal component_of components_of gauge_study loop turns one_way_anova anova fisher_anova welch_anova no_sizes no_means one_way_refusal sizes_refusal group_fault guarded total cut some sum_by sqrt_of of_bits to_bits add sub mul div neg lt of_int is_nan
+unfolding answer refused_result type3_ss factor_fits type3_fits effects_from beta inverse solved_skips wald_row wald_sum cov_inv cov_skips pivot_skips before_column skipped_in skipped_of row_of normal_at normal_system places table half_of left_half effect_code codes_from products_of products design_row lentZeros zero_right unit_row unit clear_other clear_others scaled reduced full_column full_columns matrix_inverse cleared column forward back_sum back_value back_row backward solve_linear_system swap_rows better pivot_row pivoted clear_row clear_below repeated_measures_anova repeatedAnswer repeated_refusal design_refusal first_fault subject_fault no_subjects no_conditions subject_means condition_sum condition_means ss_total ss_subjects ss_conditions part compute_sphericity_corrections corrections_of cscHere gg_of values gg_raw epsilon_gg hf_raw usable epsilon_hf trace mean_trace det w_raw mauchly_w df_w matrix_determinant det_of two_by_two abs_of is_finite least_of greatest_of clamp_of power_from power_of contrast_covariance fits through_contrasts orthonormal_contrasts contrasts contrast_rows contrast_row cov_matrix cov_rows cov_row no_covariances covariance cov_sum compute_eigenvalues diagonal rounds round qr_here zeros qr_columns qr_column remains normalize new_column put_column projections project less_column column_of blank_column matrix_multiply_csc csc blank product product_row orthonormalize orthonormal_rows orthonormal_row normalize_row project_rows project_row over_row less_row refuses dot lent two_way_anova squares_of answer_of two_way_refusal shape_refusal levels_refusal cells_refusal largest cells cell numbers tally_line listed no_levels no_cells margins cell_means ss_error unlike other_count mean_line mean_margins ab_row ss_ab balanced_ss balance_refusal study_refusal component_of components_of gauge_study loop turns one_way_anova anova fisher_anova welch_anova no_sizes no_means one_way_refusal sizes_refusal group_fault guarded total cut some sum_by sqrt_of of_bits to_bits add sub mul div neg lt of_int is_nan
 worked = refl
 
 -- Levene's analysis, of request W-201

@@ -48,10 +48,6 @@ loop-g-preserved c = (
   row_turn c.args.readings.now c.args.sizes.now c.loop-g.g c.loop-g.at c.loop-g-test.true c.loop-g.invariant.1 c.requires.sizes.readings c.requires.each row_sq_dev c.loop-g.sq_devs c.of-row.result c.of-row.ensures ∙ c.loop-g.invariant.7,
 )
 
--- TODO: no goal is called for the old overflow-cast-t26
--- cast-t26 : tie.Need-overflow-cast-t26 invariant-loop decreases-loop
--- cast-t26 c = omega (arith, c.before.before.before.before.requires.sizes.readings)
-
 pub returns : goal.returns
 returns c =
     summed c.args.readings.now c.args.sizes.now c.requires _ _ _

@@ -26,12 +26,6 @@ bounds-rows-group c =
     let fine : Sound c.args.k c.args.rows = sound _ _ (rw c.rows_refusal-refusal.ensures at c.if-refusal-ne0.false) in
     let s = fine in omega arith
 
--- TODO: no goal is called for the old overflow-cast-if3
--- cast-if3 : tie.Need-overflow-cast-if3
--- cast-if3 c =
---     let a = c.before.before.before.before.args in
---     omega (arith, (in_range a.k a.t1 (search rules) a.group (fine c.before) c.if2.false).1)
-
 pub returns-then-rows-group : goal.returns-then-rows-group
 returns-then-rows-group c =
     goes_on _ _ c.rows_refusal-refusal.ensures c.if-refusal-ne0.false (c.new-then-rows-group.ensures ∙ no_place_lem c.args.k c.args.rows c.args.group c.args.place c.if-k-group.false c.if-rows-group.true)

@@ -20,10 +20,6 @@ bounds-rows-group c =
     let known : Open c.args.k c.args.rows c.args.group c.args.place = opened_first c.args.k c.args.rows (search rules) c.args.group c.args.place (rw c.place_refusal-refusal.ensures at c.if-refusal-ne0.false) in
     let o = known in omega (arith, o.counts.high)
 
--- TODO: no goal is called for the old overflow-cast-if2
--- cast-if2 : tie.Need-overflow-cast-if2
--- cast-if2 c = omega (arith, (known c).size)
-
 pub returns-then-rows-group-le-FEWEST_READINGS : goal.returns-then-rows-group-le-FEWEST_READINGS
 returns-then-rows-group-le-FEWEST_READINGS c =
     let known : Open c.args.k c.args.rows c.args.group c.args.place = opened_first c.args.k c.args.rows (search rules) c.args.group c.args.place (rw c.place_refusal-refusal.ensures at c.if-refusal-ne0.false) in
