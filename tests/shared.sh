@@ -68,12 +68,12 @@ packed() {
     "$rust/stream" pack <"$work/made.lines"
 }
 
-# counted ALL LOG COMMAND..: a run of rt, its lines as they come; the file LOG has them all. A line that ends a crate or an edit gets its number among ALL. What the prover says of a crate is
+# counted ALL COMMAND..: a run of rt, its lines as they come. A line that ends a crate or an edit gets its number among ALL. What the prover says of a crate is
 # shown where the crate is not proved. The status is the command's, and 1 where rt says that an edit is bad.
 counted() {
-    all=$1 log=$2
-    shift 2
-    { code=0; "$@" 2>&1 || code=$?; echo "status $code"; } | tee "$log" | {
+    all=$1
+    shift
+    { code=0; "$@" 2>&1 || code=$?; echo "status $code"; } | {
         n=0 held='' code=1 bad=0
         while IFS= read -r line; do
             case $line in
