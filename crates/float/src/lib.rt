@@ -108,6 +108,7 @@ pub fn bits_of(x: f64) -> u64
 }
 
 // The float of these bits. A NaN's pattern is tested first, since `from_bits` is not defined there.
+#[tactic(auto, using(crate::proofs::Patterns::pattern_invalid))]
 pub fn float_of(n: u64) -> f64
     ensures { result ≡ of_bits binary64 n }
 {

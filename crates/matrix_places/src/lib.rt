@@ -17,6 +17,7 @@ pub const TINY: f64 = 1e-14;
 pub const TINIER: f64 = 1e-15;
 
 // Are p rows of k places too few, or too many, or too many for memory of this length? More of either than there may be conditions are always too many.
+#[tactic(auto, using(std::proofs::lemmas::Bool::Decides::nat_tests), unfolding(crate::specs::Places::refuses))]
 pub fn refuses(most: usize, p: usize, k: usize, len: usize) -> bool
     ensures { result ≡ refuses most p k len }
 {

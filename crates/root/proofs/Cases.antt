@@ -65,6 +65,10 @@ root_infinity x t h =
     let e : x ≡ inf false = sym (of_bits-to_bits binary64 x t) ∙ ap bits h ∙ of_infinity.0 in
     e ∙ of_infinity.1 ∙ ap sqrt_of (sym e)
 
+-- the same, of a double as the check knows it
+pub infinity_itself : (x : Float) → fits binary64 x ≡ true → to_bits binary64 x ≡ 9218868437227405312 → x ≡ sqrt_of x
+infinity_itself x f h = root_infinity x (subst T (sym f) tt) h
+
 -- What is left is a finite number above zero.
 abbrev pub Above : Float → Type 0
 Above x = (m : ℕ) × (e : ℤ) × (x ≡ fin false (suc m) e)

@@ -84,6 +84,7 @@ fn root_bits(b: u64) -> u64
 
 // `x.sqrt()`: the double nearest to the root of x, ties to even; of -0.0 it is -0.0, and of a number below zero a NaN.
 // The NaN leaves with the bits 7FF8000000000000, which no contract can say: the compiler makes `0.0 / 0.0` that constant.
+#[tactic(auto, using(crate::proofs::Cases::infinity_itself))]
 pub fn sqrt(x: f64) -> f64
     ensures { result ≡ sqrt_of x }
 {

@@ -135,6 +135,10 @@ module _ (k : ℕ) (rows : List Row) (g : ℕ) (x : Float) {r : Refusal} (e : r 
   unfolding refusal_of
   append_goes_on z f = rw append_order (goes_beyond (sound_refusal k rows) (judge (Replace g 0 x) (sizes_in k rows)) (full (sizes_in k rows)) e z f)
 
+-- where no place is free, an append that would pass as a replacement is refused
+pub append_full : (k : ℕ) (rows : List Row) (g : ℕ) (x : Float) → (refusal_of (Replace g 0 x) k rows).number ≡ 0 → 512 ≤ total (sizes_in k rows) → refuse 11 2 513 ≡ refusal_of (Append g x) k rows
+append_full k rows g x z h = append_goes_on k rows g x refl z (rw (le-leb 512 (total (sizes_in k rows)) h))
+
 -- number 0 is no refusal: it has no details
 judge_none : (c : Call) (ns : List ℕ) → (judge c ns).number ≡ 0 → judge c ns ≡ none
 unfolding judge

@@ -75,6 +75,7 @@ pub fn replace_refusal(
     Refusal::none()
 }
 
+#[tactic(auto, using(crate::proofs::Judged::append_full))]
 pub fn append_refusal(rows: [Row; Sheet::ROWS], k: usize, group: usize, x: f64) -> Refusal
     ensures { result ≡ refusal_of (Call.Append group x) k rows }
 {

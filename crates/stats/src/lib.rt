@@ -58,6 +58,7 @@ pub fn has_nan(readings: &[f64]) -> bool
 }
 
 // Which refusal the mean of n readings meets.
+#[tactic(auto, using(std::proofs::lemmas::Bool::Decides::nat_tests), unfolding(crate::specs::Figures::mean_refusal))]
 fn mean_refusal(n: usize) -> Refusal
     ensures { result ≡ mean_refusal n }
 {
@@ -71,6 +72,7 @@ fn mean_refusal(n: usize) -> Refusal
 }
 
 // Which refusal the variance of n readings meets.
+#[tactic(auto, using(std::proofs::lemmas::Bool::Decides::nat_tests), unfolding(crate::specs::Figures::variance_refusal))]
 fn variance_refusal(n: usize) -> Refusal
     ensures { result ≡ variance_refusal n }
 {

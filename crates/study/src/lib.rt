@@ -53,6 +53,7 @@ fn balance_refusal(counts: &[usize]) -> Refusal
 }
 
 // One component: what a mean square has more than another, over n readings; +0.0 where it has less. The test is of the difference: a quotient below zero may round to -0.0, which is not below zero.
+#[tactic(auto, unfolding(crate::specs::Study::component_of))]
 fn component(more: f64, less: f64, n: usize) -> f64
     requires { n ≤ most_levels * most_readings }
     ensures { result ≡ component_of more less n }

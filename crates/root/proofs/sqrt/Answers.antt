@@ -2,10 +2,11 @@
 use mathlib.Core.Path.{sym, ap, ◌∙◌, subst}
 use Prim.Native.Nat.{ℕ, ◌<◌}
 use lib.Dec.{T}
+use native.Mathlib.Omega.{arith}
 use lib.Ieee.{binary64, fits, of_bits, to_bits}
 use Rattle.root.specs.Nearest.{infinity}
 use Rattle.float.proofs.Tested.{invalid, has_bits}
-use Rattle.root.proofs.Cases.{Above, root_nan, root_below, root_zero, root_infinity, is_above, bits_range, root_above, root_lt_infinity, root_no_nan}
+use Rattle.root.proofs.Cases.{Above, root_nan, root_below, root_zero, is_above, bits_range, root_above, root_lt_infinity, root_no_nan}
 use Rattle.root.proofs.sqrt.Goals as goal
 
 pub returns-then-x : goal.returns-then-x
@@ -20,22 +21,17 @@ returns-then-x-3 c = root_zero c.args.x c.if-x-3.true
 pub float_to_bits-b : goal.float_to_bits-b
 float_to_bits-b c = has_bits c.args.x c.if-x.false
 
-pub returns-then-b-eq9218868437227405312 : goal.returns-then-b-eq9218868437227405312
-returns-then-b-eq9218868437227405312 c =
-    let held : T (fits binary64 c.args.x) = subst T (sym c.well_formed.0.1) tt in
-    root_infinity c.args.x (held) c.if-b-eq9218868437227405312.true
-
 pub root_bits-requires : goal.root_bits-requires
 root_bits-requires c =
     let held : T (fits binary64 c.args.x) = subst T (sym c.well_formed.0.1) tt in
-    let above : Above c.args.x = is_above c.args.x c.if-x.false c.if-x-2.false c.if-x-3.false c.if-b-eq9218868437227405312.false in
+    let above : Above c.args.x = is_above c.args.x c.if-x.false c.if-x-2.false c.if-x-3.false (λ e. omega arith) in
     let range : (0 < to_bits binary64 c.args.x) × (to_bits binary64 c.args.x < infinity) = bits_range c.args.x (held) (above) in
     range
 
 pub float_from_bits-result : goal.float_from_bits-result
 float_from_bits-result c =
     let held : T (fits binary64 c.args.x) = subst T (sym c.well_formed.0.1) tt in
-    let above : Above c.args.x = is_above c.args.x c.if-x.false c.if-x-2.false c.if-x-3.false c.if-b-eq9218868437227405312.false in
+    let above : Above c.args.x = is_above c.args.x c.if-x.false c.if-x-2.false c.if-x-3.false (λ e. omega arith) in
     let range : (0 < to_bits binary64 c.args.x) × (to_bits binary64 c.args.x < infinity) = bits_range c.args.x (held) (above) in
     let b = to_bits binary64 c.args.x in
     let r = range in
@@ -43,5 +39,5 @@ float_from_bits-result c =
 
 pub returns : goal.returns
 returns c =
-    let above : Above c.args.x = is_above c.args.x c.if-x.false c.if-x-2.false c.if-x-3.false c.if-b-eq9218868437227405312.false in
+    let above : Above c.args.x = is_above c.args.x c.if-x.false c.if-x-2.false c.if-x-3.false (λ e. omega arith) in
     ap (of_bits binary64) c.root_bits.ensures ∙ sym (root_above c.args.x (above))

@@ -1,6 +1,6 @@
--- An append asks what a replacement of the group's first reading asks, and then whether a place is free.
+-- An append asks what a replacement of the group's first reading asks, and then whether a place is free (`append_full`, where none is).
 use native.Mathlib.Omega.{arith}
-use borrow.Author.Tests.{le-leb, lt-leb}
+use borrow.Author.Tests.{lt-leb}
 use Rattle.sheet.proofs.Found.{small_ahead}
 use Rattle.sheet.specs.Calls.{Replace}
 use Rattle.sheet.proofs.Judged.{append_stops, append_goes_on, asked}
@@ -14,12 +14,7 @@ pub ahead-requires : goal.ahead-requires
 ahead-requires c =
     small_ahead c.args.k c.args.rows c.args.k (omega arith) (asked (Replace c.args.group 0 c.args.x) c.args.k c.args.rows (rw c.replace_refusal-refusal.ensures at c.if-refusal-ne0.false)).0
 
-pub returns-then-ahead-ge-PLACES : goal.returns-then-ahead-ge-PLACES
-returns-then-ahead-ge-PLACES c =
-    append_goes_on c.args.k c.args.rows c.args.group c.args.x c.replace_refusal-refusal.ensures c.if-refusal-ne0.false
-    (rw (c.new.ensures, ← c.ahead.ensures, le-leb 512 _ c.if-ahead-ge-PLACES.true))
-
 pub returns : goal.returns
 returns c =
     append_goes_on c.args.k c.args.rows c.args.group c.args.x c.replace_refusal-refusal.ensures c.if-refusal-ne0.false
-    (rw (c.none.ensures, ← c.ahead.ensures, lt-leb 512 _ c.if-ahead-ge-PLACES.false))
+    (rw (c.none.ensures, ← c.ahead.ensures, lt-leb 512 c.ahead.result (omega arith)))
