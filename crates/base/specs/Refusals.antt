@@ -1,5 +1,5 @@
 -- How a call refuses: a number of document 01's table with its two details, and the order of checks.
-use Rattle.std.specs.Prelude.{ℕ, ◌+◌, Bool, cond, List, [], ◌∷◌, eqb}
+use Rattle.std.specs.Prelude.{ℕ, ◌+◌, Bool, cond, List, [], ◌∷◌, eqb, Result, Ok, Err, ⊤}
 use Rattle.base.specs.declared.Refusal.{Refusal}
 
 infixr 20 ◌or_else◌
@@ -31,3 +31,11 @@ first_fault fault i (x ∷ xs) = fault i x or_else first_fault fault (i + 1) xs
 -- a call's answer: its numbers, or, where it is refused, an answer that carries the refusal alone
 unfoldable pub guarded : {A : Type 0} → Refusal → (Refusal → A) → A → A
 guarded r refused numbers = cond (eqb r.number 0) numbers (refused r)
+
+-- what a call hands back that can be refused: its answer, or the refusal in its place
+abbrev pub judged : {A : Type 0} → Refusal → A → Result A Refusal
+judged r x = cond (eqb r.number 0) (Ok x) (Err r)
+
+-- what a check hands back
+abbrev pub verdict : Refusal → Result ⊤ Refusal
+verdict r = judged r tt

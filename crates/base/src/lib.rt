@@ -3,7 +3,7 @@
 
 ghost use Rattle.std.specs.Prelude.{◌≡◌, ◌-◌, take};
 ghost use Rattle.base.specs.Lists.{total};
-ghost use Rattle.base.specs.Refusals.{none, refuse};
+ghost use Rattle.base.specs.Refusals.{none, refuse, verdict};
 ghost use Rattle.base.specs.Sizes.{sizes_refusal};
 
 // Document 01, "Capacities".
@@ -61,41 +61,34 @@ impl Refusal {
 pub fn minus(a: u32, b: u32) -> u32
     ensures { result ≡ a - b }
 {
-    if a < b {
-        return 0;
-    }
-    a - b
+    a.saturating_sub(b)
 }
 
 // The sum of the first n sizes, or of all where there are fewer. The sizes and n have 32 bits, so 64 cannot wrap.
 pub fn total_of(sizes: &[u32], n: u32) -> u64
     ensures { result ≡ total (take n sizes.now) }
 {
-    let mut t: u64 = 0;
-    let mut i = 0;
-    while i < sizes.len() {
-        if n as usize <= i {
-            return t;
-        }
-        t += sizes[i] as u64;
-        i += 1;
+    let k = sizes.len().min(n as usize);
+    let mut t = 0;
+    for size in &sizes[..k] {
+        t += *size as u64;
     }
     t
 }
 
 // Sizes beside n readings: more rows than `most`, which is the capacity number `which`; too many readings; sizes that do not add up.
-pub fn sizes_refusal(n: usize, sizes: &[u32], most: u32, which: u64) -> Refusal
-    ensures { result ≡ sizes_refusal most which n sizes.now }
+pub fn sizes_refusal(n: usize, sizes: &[u32], most: u32, which: u64) -> Result<(), Refusal>
+    ensures { result ≡ verdict (sizes_refusal most which n sizes.now) }
 {
     if (most as usize) < sizes.len() {
-        return Refusal::new(11, which, sizes.len() as u64);
+        return Err(Refusal::new(11, which, sizes.len() as u64));
     }
     if MOST_READINGS < n {
-        return Refusal::new(11, 2, n as u64);
+        return Err(Refusal::new(11, 2, n as u64));
     }
     let needed = total_of(sizes, most);
     if needed != n as u64 {
-        return Refusal::new(10, needed, n as u64);
+        return Err(Refusal::new(10, needed, n as u64));
     }
-    Refusal::none()
+    Ok(())
 }

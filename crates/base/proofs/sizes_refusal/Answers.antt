@@ -23,4 +23,4 @@ pub returns : goal.returns
 unfolding sizes_refusal
 returns c =
     let needed = c.total_of-needed.ensures ∙ total_whole _ _ c.if-most-sizes.false in
-    rw (c.none.ensures, le-ltb _ _ c.if-most-sizes.false, le-ltb 512 _ c.if-n-gt-MOST_READINGS.false, ← needed, eq-eqb _ _ c.if-needed-n.false)
+    rw (le-ltb _ _ c.if-most-sizes.false, le-ltb 512 _ c.if-n-gt-MOST_READINGS.false, ← needed, eq-eqb _ _ c.if-needed-n.false)
