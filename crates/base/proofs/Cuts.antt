@@ -73,3 +73,13 @@ module _ {A : Type 0} where
     pub cut_done : length ns ≤ g → cut (drop g ns) (drop at xs) ≡ []
     unfolding cut
     cut_done h = rw (drop_of_length-le ns h)
+
+  -- the same walk over what is left: `rest` begins with group g
+  module _ (ns : List ℕ) (g : ℕ) (rest : List A) where
+    pub cut_next : g < length ns → cut (drop g ns) rest ≡ take (get_or ns g 0) rest ∷ cut (drop (g + 1) ns) (drop (get_or ns g 0) rest)
+    unfolding cut
+    cut_next h = rw (add-one, drop-cons ns g 0 h)
+
+    pub cut_over : length ns ≤ g → cut (drop g ns) rest ≡ []
+    unfolding cut
+    cut_over h = rw (drop_of_length-le ns h)

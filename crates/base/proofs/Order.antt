@@ -4,7 +4,9 @@ use mathlib.Core.Bool.{Bool, true, false, cond}
 use borrow.Author.Tests.{eqb-true, eqb-false, eq-eqb, ne_eqb}
 use lib.Dec.{eqb}
 use Rattle.base.specs.declared.Refusal.{Refusal}
-use Rattle.base.specs.Refusals.{none, when, unless, ◌or_else◌, guarded}
+use Rattle.std.specs.Prelude.{Result, Ok, Err, ⊤, is_ok}
+use Rattle.std.proofs.lemmas.Bool.{false≢true, true≢false}
+use Rattle.base.specs.Refusals.{none, when, unless, ◌or_else◌, guarded, judged, verdict}
 
 -- the first of two refusals, where it is one, and the second where the first is none
 module _ (r s : Refusal) where
@@ -88,3 +90,38 @@ module _ {A : Type 0} (q : Refusal) (refused : Refusal → A) (numbers : A) wher
     -- a refused answer carries the refusal
     pub told_which : {a : A} → a ≡ guarded q refused numbers → ((tell a).number ≡ 0 → ⊥) → tell a ≡ q
     told_which {a} e n = ap tell (e ∙ refused_answer (λ z. n (told e ∙ z))) ∙ tells q
+
+-- an answer that can be refused: a refusal comes back only where it is met, and an answer only where none is
+module _ {A : Type 0} (q : Refusal) (a : A) where
+  pub judged_refused : (q.number ≡ 0 → ⊥) → judged q a ≡ Err q
+  judged_refused n = rw (ne_eqb q.number 0 n)
+
+  pub judged_passed : q.number ≡ 0 → judged q a ≡ Ok a
+  judged_passed e = rw (eq-eqb q.number 0 e)
+
+  -- what is learnt from the answer x that a call handed back
+  module _ {x : Result A Refusal} (told : x ≡ judged q a) where
+    pub was_passed : {b : A} → x ≡ Ok b → q.number ≡ 0
+    was_passed {b} e = go (eqb q.number 0) refl (sym told ∙ e)
+      where
+        go : (t : Bool) → eqb q.number 0 ≡ t → cond t (Ok a) (Err q) ≡ Ok b → q.number ≡ 0
+        go true h p = eqb-true q.number 0 h
+        go false h p = absurd (false≢true (ap is_ok p))
+
+    pub was_refused : {r : Refusal} → x ≡ Err r → (q ≡ r) × (q.number ≡ 0 → ⊥)
+    was_refused {r} e = go (eqb q.number 0) refl (sym told ∙ e)
+      where
+        held : Result A Refusal → Refusal
+        held x = elim x [ Ok b ↦ q | Err e ↦ e ]
+
+        go : (t : Bool) → eqb q.number 0 ≡ t → cond t (Ok a) (Err q) ≡ Err r → (q ≡ r) × (q.number ≡ 0 → ⊥)
+        go true h p = absurd (true≢false (ap is_ok p))
+        go false h p = (ap held p, eqb-false q.number 0 h)
+
+-- `?`: the code asks q first, x is what it was told, and goes on only where that is no refusal
+module _ (q s : Refusal) {x : Result ⊤ Refusal} (told : x ≡ verdict q) where
+  pub ends_there : {r : Refusal} → x ≡ Err r → Err r ≡ verdict (q or_else s)
+  ends_there e = let w = was_refused q tt told e in rw (first_wins q s w.1) (sym (judged_refused q tt w.1 ∙ ap Err w.0))
+
+  pub asks_next : {y : Result ⊤ Refusal} → x ≡ Ok tt → y ≡ verdict s → y ≡ verdict (q or_else s)
+  asks_next e p = rw (second_asked q s (was_passed q tt told e)) p

@@ -6,9 +6,10 @@ use native.Mathlib.Omega.{arith}
 use lib.ListN.{length, take, drop, get_or}
 use Rattle.base.specs.declared.Refusal.{Refusal}
 use Rattle.base.specs.Lists.{total, cut}
-use Rattle.base.specs.Refusals.{none, ◌or_else◌, first_fault}
-use Rattle.base.proofs.Cuts.{cut_turn, cut_done, total_turn}
-use Rattle.base.proofs.Order.{first_wins, second_asked, both_passed}
+use Rattle.base.specs.Refusals.{none, verdict, ◌or_else◌, first_fault}
+use Rattle.std.specs.Prelude.{Result, Ok, Err, ⊤}
+use Rattle.base.proofs.Cuts.{cut_turn, cut_done, cut_next, cut_over, total_turn}
+use Rattle.base.proofs.Order.{first_wins, second_asked, both_passed, ends_there, was_passed}
 
 module _ {A : Type 0} (fault : ℕ → A → Refusal) (i : ℕ) {xs : List A} where
   pub fault_nowhere : xs ≡ [] → none ≡ first_fault fault i xs
@@ -62,3 +63,26 @@ module _ {A : Type 0} (xs : List A) (ns : List ℕ) (g at : ℕ) where
 
       pub fine_here : faults.number ≡ 0 → ((fault (g + 1) here).number ≡ 0) × (further.number ≡ 0)
       fine_here = no_fault_here fault (g + 1) (cut_turn ns xs at g h)
+
+-- the search as `?` walks it: `rest` is what is left of the readings from group g on, and `told` is what was said of group g
+module _ {A : Type 0} (fault : ℕ → List A → Refusal) (ns : List ℕ) (g : ℕ) (rest : List A) where
+  -- the search from group g on, which has the number g + 1
+  abbrev pub left : Refusal
+  left = first_fault fault (g + 1) (cut (drop g ns) rest)
+
+  abbrev after : Refusal
+  after = first_fault fault (g + 1 + 1) (cut (drop (g + 1) ns) (drop (get_or ns g 0) rest))
+
+  pub none_left_over : length ns ≤ g → none ≡ left
+  none_left_over h = fault_nowhere fault (g + 1) (cut_over ns g rest h)
+
+  module _ (h : g < length ns) {x : Result ⊤ Refusal} (told : x ≡ verdict (fault (g + 1) (take (get_or ns g 0) rest))) where
+    turn : left ≡ (fault (g + 1) (take (get_or ns g 0) rest) or_else after)
+    unfolding first_fault
+    turn = rw (cut_next ns g rest h)
+
+    pub found_here : {r : Refusal} → x ≡ Err r → Err r ≡ verdict left
+    found_here e = rw turn (ends_there _ after told e)
+
+    pub found_later : x ≡ Ok tt → after ≡ left
+    found_later e = rw turn (sym (second_asked _ after (was_passed _ tt told e)))

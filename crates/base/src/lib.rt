@@ -50,10 +50,17 @@ impl Refusal {
         ensures { result ≡ refuse number first second }
     {
         Refusal {
-            number: number,
-            first: first,
-            second: second,
+            number,
+            first,
+            second,
         }
+    }
+
+    // What a check hands back that met this refusal: `Ok` where it is none.
+    pub fn check(self) -> Result<(), Refusal>
+        ensures { result ≡ verdict self }
+    {
+        if self.number == 0 { Ok(()) } else { Err(self) }
     }
 }
 

@@ -8,12 +8,14 @@ use lib.Dec.{ltb, leb}
 use lib.Ieee.{Float}
 use lib.ListN.{length, take, get_or}
 use Rattle.base.specs.Lists.{total, cut}
-use Rattle.base.specs.Refusals.{refuse, when}
+use Rattle.std.specs.Prelude.{Result, Ok, ⊤}
+use Rattle.base.specs.declared.Refusal.{Refusal}
+use Rattle.base.specs.Refusals.{refuse, when, verdict}
 use Rattle.base.specs.Inner.{Sized}
 use Rattle.base.specs.Limits.{most_groups}
 use Rattle.base.specs.Sizes.{sizes_refusal}
 use Rattle.base.proofs.Sizes.{sized}
-use Rattle.base.proofs.Order.{both_passed, no_fault}
+use Rattle.base.proofs.Order.{both_passed, no_fault, was_passed}
 use Rattle.base.proofs.Cuts.{total_split, total_turn}
 use Rattle.stats.specs.Sums.{has_nan}
 use Rattle.oneway_checks.specs.Checks.{group_fault, groups_refusal, one_way_refusal, view_refusal}
@@ -55,3 +57,7 @@ unfolding group_fault
 two_there k group h =
     let p = both_passed (when (ltb (length group) 2) (refuse 2 2 (length group))) (when (has_nan group) (refuse 4 k 0)) h in
     ltb-false (length group) 2 (no_fault (ltb (length group) 2) (refuse 2 2 (length group)) (eqb-false 2 0 refl) p.0)
+
+-- as `group` learns it from the answer of its companion
+pub shown : {xs : List Float} {ns : List ℕ} {g : ℕ} {x : Result ⊤ Refusal} → x ≡ verdict (view_refusal xs ns g) → x ≡ Ok tt → Viewed xs ns g
+shown {xs} {ns} {g} told e = viewed xs ns g (was_passed _ tt told e)
