@@ -1,9 +1,9 @@
 // What every other crate stands on: how a call refuses, document 01's limits, and the check of sizes beside flat readings.
 #![tactic(auto)]
 
-ghost use Rattle.std.specs.Prelude.{◌≡◌, ◌-◌, take};
-ghost use Rattle.base.specs.Lists.{total};
-ghost use Rattle.base.specs.Refusals.{none, refuse, verdict};
+ghost use Rattle.std.specs.Prelude.{◌≡◌, ◌-◌, take, ℕ, List, Float};
+ghost use Rattle.base.specs.Lists.{total, cut};
+ghost use Rattle.base.specs.Refusals.{none, refuse, verdict, first_fault};
 ghost use Rattle.base.specs.Sizes.{sizes_refusal};
 
 // Document 01, "Capacities".
@@ -96,6 +96,25 @@ pub fn sizes_refusal(n: usize, sizes: &[u32], most: u32, which: u64) -> Result<(
     let needed = total_of(sizes, most);
     if needed != n as u64 {
         return Err(Refusal::new(10, needed, n as u64));
+    }
+    Ok(())
+}
+
+// The first fault of the groups that lie one after another in `readings`, as many in each as `sizes` says. `fault` is asked of each group with its number, counted from 1.
+// Where the readings give out, the groups from there on have fewer, or none.
+pub fn first_fault<F: Fn(u64, &[f64]) -> Result<(), Refusal>>(
+    readings: &[f64],
+    sizes: &[u32],
+    fault: F,
+) -> Result<(), Refusal>
+    requires { (i : ℕ) (group : _) → F.pre fault i group }
+    ensures { (says : ℕ → List Float → Refusal) → ((i : ℕ) (group : _) (told : _) → F.post fault i group told → told ≡ verdict (says i group.now)) → result ≡ verdict (first_fault says 1 (cut sizes.now readings.now)) }
+{
+    let mut rest = readings;
+    for (g, size) in sizes.iter().enumerate() {
+        let (group, behind) = rest.split_at((*size as usize).min(rest.len()));
+        fault(g as u64 + 1, group)?;
+        rest = behind;
     }
     Ok(())
 }

@@ -7,17 +7,18 @@ ghost use Rattle.base.specs.Inner.{Sized};
 ghost use Rattle.base.specs.Refusals.{verdict};
 ghost use Rattle.base.specs.Limits.{most_groups};
 ghost use Rattle.stats.specs.Sums.{has_nan};
-ghost use Rattle.oneway_checks.specs.Checks.{group_fault, groups_refusal, one_way_refusal, view_refusal, view_of};
+ghost use Rattle.oneway_checks.specs.Inner.{sought_fault};
+ghost use Rattle.oneway_checks.specs.Checks.{groups_refusal, one_way_refusal, view_refusal, view_of};
 
 use base::Refusal;
 
 // Group number k, counted from 1: fewer than two readings, or a NaN, for which it looks only where `nans` says that there may be one.
-fn group_fault(group: &[f64], k: u64, nans: bool) -> Result<(), Refusal>
-    requires { nans ≡ false → has_nan group.now ≡ false }
-    ensures { result ≡ verdict (group_fault k group.now) }
+fn group_fault(k: u64, group: &[f64], nans: bool) -> Result<(), Refusal>
+    ensures { result ≡ verdict (sought_fault nans k group.now) }
 {
-    if group.len() < base::FEWEST_READINGS {
-        return Err(Refusal::new(2, base::FEWEST_READINGS as u64, group.len() as u64));
+    let fewest = base::FEWEST_READINGS;
+    if group.len() < fewest {
+        return Err(Refusal::new(2, fewest as u64, group.len() as u64));
     }
     if nans && stats::has_nan(group) {
         return Err(Refusal::new(4, k, 0));
@@ -27,17 +28,10 @@ fn group_fault(group: &[f64], k: u64, nans: bool) -> Result<(), Refusal>
 
 // The first group that has a fault. Where no reading is a NaN, the groups are not searched for one.
 fn groups_refusal(readings: &[f64], sizes: &[u32]) -> Result<(), Refusal>
-    requires { Sized most_groups (length readings.now) sizes.now }
     ensures { result ≡ verdict (groups_refusal 1 (cut sizes.now readings.now)) }
 {
     let nans = stats::has_nan(readings);
-    let mut rest = readings;
-    for (g, size) in sizes.iter().enumerate() {
-        let (group, behind) = rest.split_at(*size as usize);
-        group_fault(group, g as u64 + 1, nans)?;
-        rest = behind;
-    }
-    Ok(())
+    base::first_fault(readings, sizes, |k, group| group_fault(k, group, nans))
 }
 
 // The one-way checks, in document 01's order.

@@ -2,3 +2,4 @@ pub mod Adding
 pub mod Finding
 pub mod Passed
 pub mod Squares
+pub mod Sought

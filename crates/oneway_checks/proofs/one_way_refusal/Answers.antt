@@ -1,9 +1,8 @@
--- The checks stand in the definition's order. The groups are looked at behind the check that their sizes add up, which is what their walk asks.
+-- The checks stand in the definition's order.
 use Rattle.std.proofs.Common.{rules, ◌∙◌}
 use borrow.Author.Tests.{lt-ltb, le-ltb}
-use Rattle.base.proofs.Order.{ends_there, asks_next, was_passed}
+use Rattle.base.proofs.Order.{ends_there, asks_next}
 use Rattle.oneway_checks.specs.Checks.{one_way_refusal}
-use Rattle.base.proofs.Sizes.{sized}
 use Rattle.oneway_checks.proofs.one_way_refusal.Goals as goal
 
 pub returns-in_err-sizes_refusal : goal.returns-in_err-sizes_refusal
@@ -13,9 +12,6 @@ returns-in_err-sizes_refusal c = search rules ∙ ends_there _ _ c.sizes_refusal
 pub returns-then-sizes-lt-FEWEST_GROUPS : goal.returns-then-sizes-lt-FEWEST_GROUPS
 unfolding one_way_refusal
 returns-then-sizes-lt-FEWEST_GROUPS c = asks_next _ _ c.sizes_refusal.ensures c.in_ok-sizes_refusal.was (rw (c.new.ensures, lt-ltb _ 2 c.if-sizes-lt-FEWEST_GROUPS.true))
-
-pub groups_refusal-requires : goal.groups_refusal-requires
-groups_refusal-requires c = sized _ _ _ _ (was_passed _ _ c.sizes_refusal.ensures c.in_ok-sizes_refusal.was)
 
 pub returns : goal.returns
 unfolding one_way_refusal
