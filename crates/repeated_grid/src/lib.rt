@@ -1,9 +1,11 @@
 // Repeated measures: the table of subjects and conditions.
 #![tactic(auto)]
 
-ghost use Rattle.std.specs.Prelude.{◌≡◌, ◌≤◌, length};
+ghost use Rattle.std.specs.Prelude.{◌≡◌, ◌*◌, ◌<◌, ◌≤◌, length};
+ghost use Rattle.base.specs.Limits.{most_subjects, most_conditions};
+ghost use Rattle.base.specs.Lists.{part};
 ghost use Rattle.repeated_grid.specs.Table.{subject_means, condition_means, no_table, table_of, rm_table};
-ghost use Rattle.repeated_grid.specs.Inner.{Fitting, row_added, column_sums};
+ghost use Rattle.repeated_grid.specs.Inner.{row_added, column_sums};
 
 // The means of n subjects and k conditions, and the sums of squares. Unused places are zero.
 #[derive(Clone, Copy)]
@@ -17,16 +19,81 @@ pub struct RmTable {
     pub ss_error: f64,
 }
 
-fn subject_means(readings: &[f64], n: usize, k: usize) -> [f64; base::MOST_SUBJECTS]
-    requires { Fitting readings.now n k }
-    ensures { result ≡ subject_means readings.now n k }
-{
-    let mut out = [0.0; base::MOST_SUBJECTS];
-    for i in 0..n {
-        let at = i * k;
-        out[i] = float::canon(stats::sum(&readings[at..at + k]) / (k as f64));
+// n rows of k readings each, one after another.
+#[derive(Clone, Copy)]
+struct Grid<'a> {
+    readings: &'a [f64],
+    n: usize,
+    k: usize,
+    ghost subjects: { n ≤ most_subjects },
+    ghost conditions: { k ≤ most_conditions },
+    ghost all: { length readings.now ≡ n * k },
+}
+
+impl<'a> Grid<'a> {
+    // The readings of subject i.
+    #[tactic(auto, using(crate::proofs::Rows::row_part))]
+    fn row(&self, i: usize) -> &'a [f64]
+        requires { i < self.now.n }
+        ensures { result.now ≡ part (i * self.now.k) self.now.k self.now.readings.now }
+    {
+        let at = i * self.k;
+        &self.readings[at..at + self.k]
     }
-    out
+
+    fn subject_means(&self) -> [f64; base::MOST_SUBJECTS]
+        ensures { result ≡ subject_means self.now.readings.now self.now.n self.now.k }
+    {
+        let mut out = [0.0; base::MOST_SUBJECTS];
+        for i in 0..self.n {
+            out[i] = float::canon(stats::sum(self.row(i)) / (self.k as f64));
+        }
+        out
+    }
+
+    // The sums of all conditions, in one walk over the readings: the sums do not wait for each other as they would one after another.
+    fn condition_sums(&self) -> [f64; base::MOST_CONDITIONS]
+        ensures { result ≡ column_sums self.now.readings.now self.now.n self.now.k }
+    {
+        let mut sums = [-0.0; base::MOST_CONDITIONS];
+        for i in 0..self.n {
+            add_row(&mut sums, self.row(i));
+        }
+        sums
+    }
+
+    fn condition_means(&self) -> [f64; base::MOST_CONDITIONS]
+        ensures { result ≡ condition_means self.now.readings.now self.now.n self.now.k }
+    {
+        let sums = self.condition_sums();
+        let mut out = [0.0; base::MOST_CONDITIONS];
+        for j in 0..self.k {
+            out[j] = float::canon(sums[j] / (self.n as f64));
+        }
+        out
+    }
+
+    fn table(&self) -> RmTable
+        ensures { result ≡ table_of self.now.readings.now self.now.n self.now.k }
+    {
+        let n = self.n;
+        let k = self.k;
+        let grand_mean = stats::sum(self.readings) / ((n as f64) * (k as f64));
+        let subject_means = self.subject_means();
+        let condition_means = self.condition_means();
+        let ss_total = stats::sq_dev(self.readings, grand_mean);
+        let ss_subjects = (k as f64) * stats::sq_dev(&subject_means[..n], grand_mean);
+        let ss_conditions = (n as f64) * stats::sq_dev(&condition_means[..k], grand_mean);
+        RmTable {
+            grand_mean: float::canon(grand_mean),
+            subject_means: subject_means,
+            condition_means: condition_means,
+            ss_total: ss_total,
+            ss_subjects: float::canon(ss_subjects),
+            ss_conditions: float::canon(ss_conditions),
+            ss_error: float::canon(ss_total - ss_subjects - ss_conditions),
+        }
+    }
 }
 
 // A subject's readings, each added to its condition's sum.
@@ -37,31 +104,6 @@ fn add_row(sums: &mut [f64], row: &[f64])
     for j in 0..row.len() {
         sums[j] = sums[j] + row[j];
     }
-}
-
-// The sums of all conditions, in one walk over the readings: the sums do not wait for each other as they would one after another.
-fn condition_sums(readings: &[f64], n: usize, k: usize) -> [f64; base::MOST_CONDITIONS]
-    requires { Fitting readings.now n k }
-    ensures { result ≡ column_sums readings.now n k }
-{
-    let mut sums = [-0.0; base::MOST_CONDITIONS];
-    for i in 0..n {
-        let at = i * k;
-        add_row(&mut sums, &readings[at..at + k]);
-    }
-    sums
-}
-
-fn condition_means(readings: &[f64], n: usize, k: usize) -> [f64; base::MOST_CONDITIONS]
-    requires { Fitting readings.now n k }
-    ensures { result ≡ condition_means readings.now n k }
-{
-    let sums = condition_sums(readings, n, k);
-    let mut out = [0.0; base::MOST_CONDITIONS];
-    for j in 0..k {
-        out[j] = float::canon(sums[j] / (n as f64));
-    }
-    out
 }
 
 fn no_table() -> RmTable
@@ -78,27 +120,6 @@ fn no_table() -> RmTable
     }
 }
 
-fn table(readings: &[f64], n: usize, k: usize) -> RmTable
-    requires { Fitting readings.now n k }
-    ensures { result ≡ table_of readings.now n k }
-{
-    let grand_mean = stats::sum(readings) / ((n as f64) * (k as f64));
-    let subject_means = subject_means(readings, n, k);
-    let condition_means = condition_means(readings, n, k);
-    let ss_total = stats::sq_dev(readings, grand_mean);
-    let ss_subjects = (k as f64) * stats::sq_dev(&subject_means[..n], grand_mean);
-    let ss_conditions = (n as f64) * stats::sq_dev(&condition_means[..k], grand_mean);
-    RmTable {
-        grand_mean: float::canon(grand_mean),
-        subject_means: subject_means,
-        condition_means: condition_means,
-        ss_total: ss_total,
-        ss_subjects: float::canon(ss_subjects),
-        ss_conditions: float::canon(ss_conditions),
-        ss_error: float::canon(ss_total - ss_subjects - ss_conditions),
-    }
-}
-
 // The table of n rows of k readings each, one after another. Nothing but zeros where there are over 64 rows, over 12 readings in a row, or not n * k readings.
 pub fn rm_table(readings: &[f64], n: usize, k: usize) -> RmTable
     ensures { result ≡ rm_table readings.now n k }
@@ -112,5 +133,5 @@ pub fn rm_table(readings: &[f64], n: usize, k: usize) -> RmTable
     if readings.len() != n * k {
         return no_table();
     }
-    table(readings, n, k)
+    Grid { readings, n, k }.table()
 }

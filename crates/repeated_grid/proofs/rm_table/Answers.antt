@@ -20,9 +20,6 @@ pub returns-then-readings-n : goal.returns-then-readings-n
 unfolding rm_table
 returns-then-readings-n c = else_of _ _ _ (le-ltb _ _ c.if-n-gt-MOST_SUBJECTS.false) (else_of _ _ _ (le-ltb _ _ c.if-k-gt-MOST_CONDITIONS.false) (else_of _ _ _ (ne_eqb _ _ c.if-readings-n.true) c.no_table-then-readings-n.ensures))
 
-pub table-requires : goal.table-requires
-table-requires c = record { subjects = c.if-n-gt-MOST_SUBJECTS.false; conditions = c.if-k-gt-MOST_CONDITIONS.false; all = c.if-readings-n.false }
-
 pub returns : goal.returns
 unfolding rm_table
 returns c = else_of _ _ _ (le-ltb _ _ c.if-n-gt-MOST_SUBJECTS.false) (else_of _ _ _ (le-ltb _ _ c.if-k-gt-MOST_CONDITIONS.false) (then_of _ _ _ (eq-eqb _ _ c.if-readings-n.false) c.table.ensures))
