@@ -3,6 +3,7 @@ ghost use Rattle.std.specs.Prelude.{◌≡◌, ◌+◌, ◌*◌, ◌-◌, ◌≤
 ghost use Rattle.repeated_contrasts.specs.Contrasts.{contrast_row, contrast_rows};
 
 // Row i, where all its places hold 0.
+#[tactic(auto, unfolding(crate::specs::Contrasts::contrast_row))]
 pub fn contrast_row(k: usize, i: usize, c: &mut [f64])
     requires { (i + 1 < k) × (i * k + k ≤ length c.old) }
     ensures { c.new ≡ contrast_row k i c.old }
@@ -13,6 +14,7 @@ pub fn contrast_row(k: usize, i: usize, c: &mut [f64])
 }
 
 // All rows, of which there is one less than conditions.
+#[tactic(auto, using(base::proofs::Loops::step, base::proofs::Loops::ends), unfolding(crate::specs::Contrasts::contrast_rows))]
 pub fn contrast_rows(k: usize, c: &mut [f64])
     requires { (2 ≤ k) × ((k - 1) * k ≤ length c.old) }
     ensures { c.new ≡ contrast_rows k c.old }
