@@ -5,6 +5,7 @@ ghost use Rattle.repeated_sphericity.specs.Corrections.{gg_of};
 ghost use Rattle.repeated_sphericity.specs.Epsilons.{values, square_sum, gg_raw, epsilon_gg, hf_raw, usable, epsilon_hf};
 
 // The eigenvalues of p rows of p places, in the first p places. The matrix is used up, so it is a copy.
+#[tactic(auto, unfolding(crate::specs::Epsilons::values, matrix_eigen::specs::Qr::blank_column))]
 fn values(csc: [f64; matrix_places::SQUARE], p: usize) -> [f64; matrix_places::MOST_CONTRASTS]
     ensures { result ≡ values p csc }
 {
@@ -15,19 +16,15 @@ fn values(csc: [f64; matrix_places::SQUARE], p: usize) -> [f64; matrix_places::M
 }
 
 // The squares of the values, added up in their order.
+#[tactic(auto, unfolding(stats::specs::Sums::sum_by))]
 fn square_sum(values: &[f64]) -> f64
     ensures { result ≡ square_sum values.now }
 {
-    let mut t = -0.0;
-    let mut i = 0;
-    while i < values.len() {
-        t = t + values[i] * values[i];
-        i += 1;
-    }
-    t
+    values.iter().fold(-0.0, |t, value| t + value * value)
 }
 
 // The squared sum over p times the sum of squares, unless that is too small or a NaN.
+#[tactic(auto, unfolding(crate::specs::Epsilons::gg_raw))]
 fn gg_raw(values: &[f64], p: usize) -> f64
     requires { p ≤ most_conditions }
     ensures { result ≡ gg_raw p values.now }
@@ -41,6 +38,7 @@ fn gg_raw(values: &[f64], p: usize) -> f64
 }
 
 // Greenhouse and Geisser's epsilon of the first k - 1 values. It is no NaN: the two bounds are none.
+#[tactic(auto, unfolding(crate::specs::Epsilons::epsilon_gg))]
 fn epsilon_gg(values: [f64; matrix_places::MOST_CONTRASTS], k: usize) -> f64
     requires { (1 ≤ k) × (k ≤ most_conditions) }
     ensures { result ≡ epsilon_gg k (take (k - 1) values) }
@@ -50,6 +48,7 @@ fn epsilon_gg(values: [f64; matrix_places::MOST_CONTRASTS], k: usize) -> f64
 }
 
 // The epsilon of the matrix, k - 1 rows of k - 1 places.
+#[tactic(auto, unfolding(crate::specs::Corrections::gg_of))]
 pub fn gg_of(csc: [f64; matrix_places::SQUARE], k: usize) -> f64
     requires { (1 ≤ k) × (k ≤ most_conditions) }
     ensures { result ≡ gg_of k csc }
@@ -59,6 +58,7 @@ pub fn gg_of(csc: [f64; matrix_places::SQUARE], k: usize) -> f64
 }
 
 // Huynh and Feldt's estimate from the epsilon e.
+#[tactic(auto, unfolding(crate::specs::Epsilons::hf_raw))]
 fn hf_raw(n: usize, k: usize, e: f64) -> f64
     requires { (n ≤ most_subjects) × (k ≤ most_conditions) }
     ensures { result ≡ hf_raw n k e }
@@ -69,6 +69,7 @@ fn hf_raw(n: usize, k: usize, e: f64) -> f64
 }
 
 // Whether an estimate is finite and above 0.
+#[tactic(auto, unfolding(crate::specs::Epsilons::usable))]
 fn usable(hf: f64) -> bool
     ensures { result ≡ usable hf }
 {
@@ -76,6 +77,7 @@ fn usable(hf: f64) -> bool
 }
 
 // Huynh and Feldt's epsilon. Where the estimate cannot be used, it is e as it came.
+#[tactic(auto, unfolding(crate::specs::Epsilons::epsilon_hf))]
 pub fn epsilon_hf(n: usize, k: usize, e: f64) -> f64
     requires { (n ≤ most_subjects) × (k ≤ most_conditions) }
     ensures { result ≡ epsilon_hf n k e }

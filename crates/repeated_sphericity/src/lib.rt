@@ -8,6 +8,7 @@ ghost use Rattle.std.specs.Prelude.{◌≡◌};
 ghost use Rattle.repeated_sphericity.specs.Corrections.{corrected, corrections_of, compute_sphericity_corrections};
 ghost use Rattle.repeated_sphericity.specs.Inner.{Taken};
 
+use mauchly::Csc;
 use results::{CorrectedResult, Corrections};
 
 // One corrected analysis. The epsilons are canonical, F may be any NaN.
@@ -23,6 +24,7 @@ fn corrected(f_stat: f64, df_num: f64, df_den: f64, epsilon: f64) -> CorrectedRe
 }
 
 // Everything, from C S C'.
+#[tactic(auto, unfolding(crate::specs::Corrections::corrections_of))]
 fn corrections_of(
     csc: [f64; matrix_places::SQUARE],
     n: usize,
@@ -37,7 +39,11 @@ fn corrections_of(
     let gg = epsilons::gg_of(csc, k);
     let hf = epsilons::epsilon_hf(n, k, gg);
     Corrections {
-        sphericity: mauchly::sphericity_of(csc, k - 1),
+        sphericity: Csc {
+            places: csc,
+            p: k - 1,
+        }
+        .sphericity(),
         greenhouse_geisser: corrected(f_stat, df_num, df_den, gg),
         huynh_feldt: corrected(f_stat, df_num, df_den, hf),
     }

@@ -1,72 +1,82 @@
 // Mauchly's W of a matrix of p rows of p places.
-ghost use Rattle.std.specs.Prelude.{◌≡◌, ◌*◌, ◌≤◌, length};
+ghost use Rattle.std.specs.Prelude.{◌≡◌, ◌≤◌};
 ghost use Rattle.matrix_places.specs.Places.{most_contrasts};
 ghost use Rattle.repeated_sphericity.specs.Corrections.{sphericity_of};
 ghost use Rattle.repeated_sphericity.specs.Mauchly.{trace, mean_trace, det, w_raw, mauchly_w, df_w};
 
 use results::SphericityResult;
 
-// The diagonal, added up in its order.
-fn trace(m: &[f64], p: usize) -> f64
-    requires { p * p ≤ length m.now }
-    ensures { result ≡ trace p m.now }
-{
-    let mut t = -0.0;
-    for i in 0..p {
-        t += m[i * p + i];
+// C S C': p rows of p places, in the first of so many as there may be.
+#[derive(Clone, Copy)]
+pub struct Csc {
+    pub places: [f64; matrix_places::SQUARE],
+    pub p: usize,
+    ghost few: { p ≤ most_contrasts },
+}
+
+impl Csc {
+    // The diagonal, added up in its order.
+    #[tactic(auto, using(base::proofs::Loops::step, base::proofs::Loops::ends), unfolding(crate::specs::Mauchly::trace))]
+    fn trace(&self) -> f64
+        ensures { result ≡ trace self.now.p self.now.places }
+    {
+        let mut t = -0.0;
+        for i in 0..self.p {
+            t += self.places[i * self.p + i];
+        }
+        t
     }
-    t
-}
 
-// The mean of the diagonal.
-fn mean_trace(csc: [f64; matrix_places::SQUARE], p: usize) -> f64
-    requires { p ≤ most_contrasts }
-    ensures { result ≡ mean_trace p csc }
-{
-    trace(&csc, p) / (p as f64)
-}
-
-// The determinant. The matrix is used up, so it is a copy.
-fn det(csc: [f64; matrix_places::SQUARE], p: usize) -> f64
-    ensures { result ≡ det p csc }
-{
-    let mut m = csc;
-    matrix_linear::matrix_determinant(&mut m, p)
-}
-
-// The determinant over a power of the diagonal's mean, unless that is too small or a NaN.
-fn w_raw(csc: [f64; matrix_places::SQUARE], p: usize) -> f64
-    requires { p ≤ most_contrasts }
-    ensures { result ≡ w_raw p csc }
-{
-    let mean = mean_trace(csc, p);
-    if float::abs(mean) > 1e-15 {
-        return det(csc, p) / float::power(mean, p as u32);
+    // The mean of the diagonal.
+    #[tactic(auto, unfolding(crate::specs::Mauchly::mean_trace))]
+    fn mean_trace(&self) -> f64
+        ensures { result ≡ mean_trace self.now.p self.now.places }
+    {
+        self.trace() / (self.p as f64)
     }
-    1.0
-}
 
-fn mauchly_w(csc: [f64; matrix_places::SQUARE], p: usize) -> f64
-    requires { p ≤ most_contrasts }
-    ensures { result ≡ mauchly_w p csc }
-{
-    float::clamp(w_raw(csc, p), 0.0, 1.0)
-}
+    // The determinant. The matrix is used up, so it is a copy.
+    #[tactic(auto, unfolding(crate::specs::Mauchly::det))]
+    fn det(&self) -> f64
+        ensures { result ≡ det self.now.p self.now.places }
+    {
+        let mut m = self.places;
+        matrix_linear::matrix_determinant(&mut m, self.p)
+    }
 
-fn df_w(p: usize) -> f64
-    requires { p ≤ most_contrasts }
-    ensures { result ≡ df_w p }
-{
-    ((p * (p + 1)) as f64) / 2.0 - 1.0
-}
+    // The determinant over a power of the diagonal's mean, unless that is too small or a NaN.
+    #[tactic(auto, unfolding(crate::specs::Mauchly::w_raw))]
+    fn w_raw(&self) -> f64
+        ensures { result ≡ w_raw self.now.p self.now.places }
+    {
+        let mean = self.mean_trace();
+        if float::abs(mean) > 1e-15 {
+            return self.det() / float::power(mean, self.p as u32);
+        }
+        1.0
+    }
 
-// W and its degrees of freedom, which are a number.
-pub fn sphericity_of(csc: [f64; matrix_places::SQUARE], p: usize) -> SphericityResult
-    requires { p ≤ most_contrasts }
-    ensures { result ≡ sphericity_of p csc }
-{
-    SphericityResult {
-        w: mauchly_w(csc, p),
-        df: df_w(p),
+    #[tactic(auto, unfolding(crate::specs::Mauchly::mauchly_w))]
+    fn mauchly_w(&self) -> f64
+        ensures { result ≡ mauchly_w self.now.p self.now.places }
+    {
+        float::clamp(self.w_raw(), 0.0, 1.0)
+    }
+
+    #[tactic(auto, unfolding(crate::specs::Mauchly::df_w))]
+    fn df_w(&self) -> f64
+        ensures { result ≡ df_w self.now.p }
+    {
+        ((self.p * (self.p + 1)) as f64) / 2.0 - 1.0
+    }
+
+    // W and its degrees of freedom, which are a number.
+    pub fn sphericity(&self) -> SphericityResult
+        ensures { result ≡ sphericity_of self.now.p self.now.places }
+    {
+        SphericityResult {
+            w: self.mauchly_w(),
+            df: self.df_w(),
+        }
     }
 }
