@@ -125,3 +125,11 @@ module _ (q s : Refusal) {x : Result ⊤ Refusal} (told : x ≡ verdict q) where
 
   pub asks_next : {y : Result ⊤ Refusal} → x ≡ Ok tt → y ≡ verdict s → y ≡ verdict (q or_else s)
   asks_next e p = rw (second_asked q s (was_passed q tt told e)) p
+
+-- an answer behind a check that was asked: x is what the check said, y what the code hands back
+module _ {A : Type 0} (q : Refusal) (refused : Refusal → A) (numbers : A) {x : Result ⊤ Refusal} (told : x ≡ verdict q) {y : A} where
+  pub answers_err : {r : Refusal} → x ≡ Err r → y ≡ refused r → y ≡ guarded q refused numbers
+  answers_err e p = let w = was_refused q tt told e in answers_refused q refused numbers (sym w.0) (λ z. w.1 (rw w.0 z)) p
+
+  pub answers_ok : x ≡ Ok tt → y ≡ numbers → y ≡ guarded q refused numbers
+  answers_ok e p = answers_numbers q refused numbers refl (was_passed q tt told e) p

@@ -12,10 +12,7 @@ use results::Corrections;
 fn asked(compute_sphericity: bool, k: usize) -> bool
     ensures { result ≡ asked compute_sphericity k }
 {
-    if compute_sphericity {
-        return 3 <= k;
-    }
-    false
+    compute_sphericity && 3 <= k
 }
 
 // The results of sphericity, or zeros where it is not asked for.

@@ -30,6 +30,7 @@ pub struct RmAnovaResult {
 }
 
 // The answer that carries a refusal alone.
+#[tactic(auto, unfolding(crate::specs::Results::refused_result, repeated_grid::specs::Table::no_conditions, repeated_grid::specs::Table::no_subjects))]
 fn refused(refusal: Refusal) -> RmAnovaResult
     ensures { result ≡ refused_result refusal }
 {
@@ -64,12 +65,13 @@ pub fn repeated_measures_anova(
 ) -> RmAnovaResult
     ensures { result ≡ repeated_measures_anova readings.now sizes.now compute_sphericity }
 {
-    let refusal = repeated_checks::repeated_refusal(readings, sizes);
-    if refusal.number != 0 {
-        return refused(refusal);
+    match repeated_checks::repeated_refusal(readings, sizes) {
+        Err(refusal) => refused(refusal),
+        Ok(()) => {
+            let n = sizes.len();
+            let k = sizes[0] as usize;
+            let t = repeated_grid::rm_table(readings, n, k);
+            answer::answer(readings, n, k, t, compute_sphericity)
+        }
     }
-    let n = sizes.len();
-    let k = sizes[0] as usize;
-    let t = repeated_grid::rm_table(readings, n, k);
-    answer::answer(readings, n, k, t, compute_sphericity)
 }

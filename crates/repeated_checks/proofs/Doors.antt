@@ -9,18 +9,15 @@ use lib.Dec.{ltb, eqb}
 use lib.Ieee.{Float}
 use lib.ListN.{length, take, drop, replicate, length-drop}
 use lib.Seq.{length-take-le}
+use Rattle.std.specs.Prelude.{Result, Ok, ⊤}
+use Rattle.base.specs.declared.Refusal.{Refusal}
 use Rattle.base.specs.Lists.{total, cut}
-use Rattle.base.specs.Refusals.{refuse, when, unless, first_fault}
+use Rattle.base.specs.Refusals.{refuse, when, unless, first_fault, verdict}
 use Rattle.base.specs.Sizes.{sizes_refusal}
 use Rattle.base.proofs.Sizes.{sized}
-use Rattle.base.proofs.Order.{both_passed, no_fault, needed_there}
+use Rattle.base.proofs.Order.{both_passed, no_fault, needed_there, was_passed}
 use Rattle.repeated_checks.specs.Checks.{conditions, design_refusal, subject_fault, subjects_refusal, repeated_refusal}
 use Rattle.repeated_checks.specs.Inner.{Passed}
-
--- no subjects, no conditions
-pub none_first : (ns : List ℕ) → length ns ≡ 0 → 0 ≡ conditions ns
-none_first [] e = refl
-none_first (n ∷ ns) e = absurd (omega (arith, e))
 
 -- the bounds of a design
 abbrev Bounds : ℕ → ℕ → Type 0
@@ -78,3 +75,7 @@ passed xs ns h =
       all = sym s.adds ∙ ap total r ∙ total_replicate (length ns) (conditions ns);
       rows = r;
     }
+
+-- as the analysis learns it from what the checks said
+pub shown : {xs : List Float} {ns : List ℕ} {x : Result ⊤ Refusal} → x ≡ verdict (repeated_refusal xs ns) → x ≡ Ok tt → Passed xs ns (length ns) (conditions ns)
+shown {xs} {ns} told e = passed xs ns (was_passed _ tt told e)

@@ -1,33 +1,22 @@
 -- A refusal ends the call; otherwise what the checks leave known is what the answer asks.
-use native.Mathlib.Omega.{arith}
-use lib.ListN.{length}
-use Rattle.repeated_checks.specs.Checks.{conditions}
-use Rattle.repeated_checks.specs.Inner.{Passed}
-use Rattle.repeated_checks.proofs.Doors.{passed}
-use Rattle.base.proofs.Order.{answers_refused, answers_numbers}
+use Rattle.std.proofs.Common.{arith}
+use Rattle.base.proofs.Order.{answers_err, answers_ok}
+use Rattle.repeated_checks.proofs.Doors.{shown}
 use Rattle.repeated.specs.Anova.{repeated_measures_anova}
 use Rattle.repeated.proofs.Designs.{table_there}
 use Rattle.repeated.proofs.repeated_measures_anova.Goals as goal
 
-pub returns-then-refusal-ne0 : goal.returns-then-refusal-ne0
+pub returns-in-Err : goal.returns-in-Err
 unfolding repeated_measures_anova
-returns-then-refusal-ne0 c = answers_refused _ _ _ c.repeated_refusal-refusal.ensures c.if-refusal-ne0.true c.refused.ensures
+returns-in-Err c = answers_err _ _ _ c.repeated_refusal.ensures c.in-Err.is c.refused.ensures
 
 pub bounds-sizes-0 : goal.bounds-sizes-0
-bounds-sizes-0 c =
-    let known : Passed c.args.readings.now c.args.sizes.now (length c.args.sizes.now) (conditions c.args.sizes.now) = passed _ _ (rw c.repeated_refusal-refusal.ensures at c.if-refusal-ne0.false) in
-    let k = known in omega (arith, k.subjects, k.low_n)
-
-pub overflow_cast-k : goal.overflow_cast-k
-overflow_cast-k c = omega (arith, c.type_inv.sizes 0)
+bounds-sizes-0 c = let k = shown c.repeated_refusal.ensures c.in-Ok.is in omega (arith, k.subjects, k.low_n)
 
 pub answer-requires : goal.answer-requires
-answer-requires c =
-    let known : Passed c.args.readings.now c.args.sizes.now (length c.args.sizes.now) (conditions c.args.sizes.now) = passed _ _ (rw c.repeated_refusal-refusal.ensures at c.if-refusal-ne0.false) in
-    let k = known in (k.high_n, k.high_k)
+answer-requires c = let k = shown c.repeated_refusal.ensures c.in-Ok.is in (k.high_n, k.high_k)
 
-pub returns : goal.returns
+pub returns-in-Ok : goal.returns-in-Ok
 unfolding repeated_measures_anova
-returns c =
-    let known : Passed c.args.readings.now c.args.sizes.now (length c.args.sizes.now) (conditions c.args.sizes.now) = passed _ _ (rw c.repeated_refusal-refusal.ensures at c.if-refusal-ne0.false) in
-    answers_numbers _ _ _ c.repeated_refusal-refusal.ensures c.if-refusal-ne0.false (rw (table_there _ _ _ _ _ known c.rm_table-t.ensures) at c.answer.ensures)
+returns-in-Ok c =
+    answers_ok _ _ _ c.repeated_refusal.ensures c.in-Ok.is (rw (table_there _ _ _ _ _ (shown c.repeated_refusal.ensures c.in-Ok.is) c.rm_table-t.ensures) at c.answer.ensures)
