@@ -1,3 +1,4 @@
+pub mod Swaps
 pub mod Candidates
 pub mod Largest
 pub mod Columns

@@ -13,8 +13,6 @@ pub fn swap_rows(m: &mut [f64], w: usize, a: usize, b: usize)
     let p = a * w;
     let q = b * w;
     for j in 0..w {
-        let t = m[p + j];
-        m[p + j] = m[q + j];
-        m[q + j] = t;
+        m.swap(p + j, q + j);
     }
 }

@@ -74,6 +74,7 @@ pub fn dot(x: &[f64], p: usize, s: usize, y: &[f64], q: usize, t: usize, n: usiz
 }
 
 // Is m too short for the row of w places that begins at p?
+#[tactic(auto, using(crate::proofs::Rows::wider, crate::proofs::Rows::start_asked))]
 fn short(m: &[f64], p: usize, w: usize) -> bool
     ensures { result ≡ short p w (length m.now) }
 {
