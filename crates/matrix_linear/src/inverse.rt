@@ -18,6 +18,7 @@ pub fn zero_right(m: &mut [f64], n: usize, i: usize)
 }
 
 // The right half of row i becomes that of the unit matrix.
+#[tactic(auto, using(crate::proofs::Calls::unit_put))]
 pub fn unit_row(m: &mut [f64], n: usize, i: usize)
     requires { (i < n) × (i * (2 * n) + 2 * n ≤ length m.old) }
     ensures { m.new ≡ unit_row n i m.old }
@@ -27,6 +28,7 @@ pub fn unit_row(m: &mut [f64], n: usize, i: usize)
 }
 
 // The right half becomes the unit matrix.
+#[tactic(auto, using(base::proofs::Loops::step, base::proofs::Loops::ends), unfolding(crate::specs::Inverse::unit))]
 pub fn unit(m: &mut [f64], n: usize)
     requires { n * (2 * n) ≤ length m.old }
     ensures { m.new ≡ unit n m.old }
@@ -37,6 +39,7 @@ pub fn unit(m: &mut [f64], n: usize)
 }
 
 // A row r other than col, less m[r][col] times row col.
+#[tactic(auto, using(base::proofs::Bounds::else_of, matrix_places::proofs::Rows::less_room), unfolding(crate::specs::Inverse::clear_other))]
 pub fn clear_other(m: &mut [f64], w: usize, col: usize, r: usize)
     requires { (col < w) × ((col * w + w ≤ length m.old) × (r * w + w ≤ length m.old)) }
     ensures { m.new ≡ clear_other w col r m.old }
@@ -80,6 +83,7 @@ pub fn full_column(m: &mut [f64], n: usize, w: usize, col: usize, skipped: usize
 }
 
 // All columns: how many were skipped.
+#[tactic(auto, using(base::proofs::Loops::step, base::proofs::Loops::ends, crate::proofs::Counting::counting_is, base::proofs::Bounds::row_end))]
 pub fn full_columns(m: &mut [f64], n: usize, w: usize) -> usize
     requires { (n ≤ w) × (n * w ≤ length m.old) }
     ensures { (m.new, result) ≡ all_counted (full_column n w) n w m.old }

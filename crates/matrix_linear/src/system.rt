@@ -21,6 +21,7 @@ pub fn column(m: &mut [f64], n: usize, w: usize, col: usize, skipped: usize) -> 
 }
 
 // Elimination, column by column: how many were skipped.
+#[tactic(auto, using(base::proofs::Loops::step, base::proofs::Loops::ends, crate::proofs::Counting::counting_is, base::proofs::Bounds::row_end))]
 pub fn forward(m: &mut [f64], n: usize, w: usize) -> usize
     requires { (n ≤ w) × (n * w ≤ length m.old) }
     ensures { (m.new, result) ≡ all_counted (column n w) n w m.old }
@@ -33,6 +34,7 @@ pub fn forward(m: &mut [f64], n: usize, w: usize) -> usize
 }
 
 // The right side of row i less the row's products with the values that are known.
+#[tactic(auto, using(base::proofs::Loops::step, base::proofs::Loops::ends), unfolding(crate::specs::System::back_sum))]
 pub fn back_sum(m: &[f64], n: usize, i: usize) -> f64
     requires { (i < n) × (n * (n + 1) ≤ length m.now) }
     ensures { result ≡ back_sum n i m.now }
@@ -47,6 +49,7 @@ pub fn back_sum(m: &[f64], n: usize, i: usize) -> f64
 }
 
 // x[i]: 0 where the divisor is too small.
+#[tactic(auto, unfolding(crate::specs::System::back_value))]
 pub fn back_value(m: &[f64], n: usize, i: usize) -> f64
     requires { (i < n) × (n * (n + 1) ≤ length m.now) }
     ensures { result ≡ back_value n i m.now }
@@ -59,6 +62,7 @@ pub fn back_value(m: &[f64], n: usize, i: usize) -> f64
 }
 
 // x[n - 1 - k] takes the place of its right side.
+#[tactic(auto, unfolding(crate::specs::System::back_row))]
 pub fn back_row(m: &mut [f64], n: usize, k: usize)
     requires { (k < n) × (n * (n + 1) ≤ length m.old) }
     ensures { m.new ≡ back_row n k m.old }
@@ -68,6 +72,7 @@ pub fn back_row(m: &mut [f64], n: usize, k: usize)
 }
 
 // Back substitution, from the last row up.
+#[tactic(auto, using(base::proofs::Loops::step, base::proofs::Loops::ends), unfolding(crate::specs::System::backward))]
 pub fn backward(m: &mut [f64], n: usize)
     requires { n * (n + 1) ≤ length m.old }
     ensures { m.new ≡ backward n m.old }
