@@ -1,37 +1,8 @@
-// Elimination and back substitution of a linear system.
+// Back substitution of a linear system.
 ghost use Rattle.std.specs.Prelude.{◌≡◌, ◌+◌, ◌*◌, ◌≤◌, ◌<◌, length};
-ghost use Rattle.matrix_linear.specs.Inner.{counted, all_counted};
-ghost use Rattle.matrix_linear.specs.System.{column, back_sum, back_value, back_row, backward};
+ghost use Rattle.matrix_linear.specs.System.{back_sum, back_value, back_row, backward};
 
-use super::pivots::{clear_below, pivot};
 use super::place::skips;
-
-// One column of the elimination: rows swap, and the column is cleared below row col unless the pivot is too small. `skipped` columns were
-// skipped before it; the result counts this one too.
-pub fn column(m: &mut [f64], n: usize, w: usize, col: usize, skipped: usize) -> usize
-    requires { (col < n) × ((n ≤ w) × (n * w ≤ length m.old)) × (skipped ≤ col) }
-    ensures { ((m.new, result) ≡ counted (column n w) n w col (m.old, skipped)) × (result ≤ skipped + 1) }
-{
-    pivot(m, n, w, col);
-    if skips(m, col * w + col) {
-        return skipped + 1;
-    }
-    clear_below(m, n, w, col);
-    skipped
-}
-
-// Elimination, column by column: how many were skipped.
-#[tactic(auto, using(base::proofs::Loops::step, base::proofs::Loops::ends, crate::proofs::Counting::counting_is, base::proofs::Bounds::row_end))]
-pub fn forward(m: &mut [f64], n: usize, w: usize) -> usize
-    requires { (n ≤ w) × (n * w ≤ length m.old) }
-    ensures { (m.new, result) ≡ all_counted (column n w) n w m.old }
-{
-    let mut skipped = 0;
-    for col in 0..n {
-        skipped = column(m, n, w, col, skipped);
-    }
-    skipped
-}
 
 // The right side of row i less the row's products with the values that are known.
 #[tactic(auto, using(base::proofs::Loops::step, base::proofs::Loops::ends), unfolding(crate::specs::System::back_sum))]
