@@ -1,4 +1,5 @@
-// The square root of a double, correctly rounded. There is no such operation to call, so the number is read off its bit pattern and its root is found in whole numbers.
+// The square root of a double, correctly rounded. Document 01, "Forms that must change", wants a helper of our own: the number is read off its bit pattern, and its root is
+// found in whole numbers.
 #![tactic(auto)]
 
 ghost use Rattle.std.specs.Prelude.{◌≡◌, ◌*◌, ◌^◌, ◌≤◌, ◌<◌};
@@ -6,12 +7,21 @@ ghost use Rattle.root.specs.Root.{significand, exponent, root_bits, sqrt_of};
 ghost use Rattle.root.specs.Inner.{IsFloor};
 ghost use Rattle.root.specs.Nearest.{infinity};
 
+// 2^52: the 53rd binary digit, which a pattern leaves out. Patterns below it are those of subnormal numbers.
+const LEAD: u64 = 1 << 52;
+
+// 27 binary digits, by which the root of a significand is made longer.
+const DIGITS: u64 = 1 << 27;
+
+// The pattern of the infinity.
+const INFINITY: u64 = 0x7FF << 52;
+
 // A first guess at the root of n. For an n from 2^52 on it lies on one of two straight lines, and is at most 8 in 1000 off.
 fn guess(n: u64) -> u64
     requires { n < 2 ^ 54 }
     ensures { (2 ^ 25 ≤ result) × (result < 2 ^ 28) }
 {
-    if n < 9007199254740992 {
+    if n < 2 * LEAD {
         39605106 + n / 160813903
     } else {
         56010078 + n / 227425203
@@ -40,11 +50,11 @@ fn long_root(m: u64) -> u64
 {
     let s = isqrt(m);
     let d = 2 * s;
-    let rest = (m - s * s) * 134217728;
+    let rest = (m - s * s) * DIGITS;
     let u = rest / d;
     let v = rest % d;
-    let r = s * 134217728 + u;
-    if v * 134217728 < u * u { r - 1 } else { r }
+    let r = s * DIGITS + u;
+    if v * DIGITS < u * u { r - 1 } else { r }
 }
 
 // The 53 binary digits of the number above zero whose pattern is b. A subnormal number has fewer, and is moved up.
@@ -52,10 +62,10 @@ fn significand(b: u64) -> u64
     requires { 0 < b }
     ensures { result ≡ significand b }
 {
-    if b < 4503599627370496 {
-        b << (u64::leading_zeros(b) - 11)
+    if b < LEAD {
+        b << (b.leading_zeros() - 11)
     } else {
-        b % 4503599627370496 + 4503599627370496
+        b % LEAD + LEAD
     }
 }
 
@@ -64,10 +74,10 @@ fn exponent(b: u64) -> u64
     requires { 0 < b }
     ensures { result ≡ exponent b }
 {
-    if b < 4503599627370496 {
-        (1031 - u64::leading_zeros(b)) as u64
+    if b < LEAD {
+        (1031 - b.leading_zeros()) as u64
     } else {
-        b / 4503599627370496 + 1019
+        b / LEAD + 1019
     }
 }
 
@@ -79,7 +89,7 @@ fn root_bits(b: u64) -> u64
     let m = significand(b);
     let h = exponent(b);
     let r = long_root(m << (h % 2));
-    (h / 2 + 1) * 4503599627370496 + (r + 1) / 2
+    (h / 2 + 1) * LEAD + (r + 1) / 2
 }
 
 // `x.sqrt()`: the double nearest to the root of x, ties to even; of -0.0 it is -0.0, and of a number below zero a NaN.
@@ -98,7 +108,7 @@ pub fn sqrt(x: f64) -> f64
         return x;
     }
     let b = f64::to_bits(x);
-    if b == 0x7FF0000000000000 {
+    if b == INFINITY {
         return x;
     }
     f64::from_bits(root_bits(b))

@@ -8,8 +8,8 @@ use Rattle.root.proofs.exponent.Goals as goal
 pub overflow_sub-result : goal.overflow_sub-result
 overflow_sub-result c = omega (arith, leading_le 64 c.args.b)
 
-pub returns-then-b-lt4503599627370496 : goal.returns-then-b-lt4503599627370496
-returns-then-b-lt4503599627370496 c = sym (exponent_low c.args.b c.if-b-lt4503599627370496.true)
+pub returns-then-b-lt-LEAD : goal.returns-then-b-lt-LEAD
+returns-then-b-lt-LEAD c = sym (exponent_low c.args.b c.if-b-lt-LEAD.true)
 
-pub returns-else-b-lt4503599627370496 : goal.returns-else-b-lt4503599627370496
-returns-else-b-lt4503599627370496 c = sym (exponent_high c.args.b c.if-b-lt4503599627370496.false)
+pub returns-else-b-lt-LEAD : goal.returns-else-b-lt-LEAD
+returns-else-b-lt-LEAD c = sym (exponent_high c.args.b c.if-b-lt-LEAD.false)
