@@ -30,6 +30,7 @@ fn guess(n: u64) -> u64
 
 // The largest r with r * r <= n, by Newton's iteration. A step from any guess gives a number that is not too small, so the first whose square is not above n is the
 // root. From 2^52 on two steps nearly always do.
+#[tactic(auto, using(crate::proofs::Newton::newton_above, crate::proofs::Newton::newton_below, crate::proofs::Newton::sq_pos, crate::proofs::Newton::two_steps, crate::proofs::Newton::square_fits))]
 fn isqrt(n: u64) -> u64
     requires { n < 2 ^ 54 }
     ensures { IsFloor n result }
@@ -44,6 +45,7 @@ fn isqrt(n: u64) -> u64
 }
 
 // The largest r with r * r <= m * 2^54: the root of m, and then 27 binary digits more by one division.
+#[tactic(auto, using(crate::proofs::Longer::range, crate::proofs::Longer::left, crate::proofs::Longer::few, crate::proofs::Longer::few_square, crate::proofs::Longer::exact, crate::proofs::Longer::less))]
 fn long_root(m: u64) -> u64
     requires { (2 ^ 52 ≤ m) × (m < 2 ^ 54) }
     ensures { IsFloor (m * 2 ^ 54) result }
@@ -58,6 +60,7 @@ fn long_root(m: u64) -> u64
 }
 
 // The 53 binary digits of the number above zero whose pattern is b. A subnormal number has fewer, and is moved up.
+#[tactic(auto, using(crate::proofs::Scaled::twelve, crate::proofs::Scaled::significand_low, crate::proofs::Scaled::significand_high, crate::proofs::Scaled::significand_range, crate::proofs::Scaled::leads))]
 fn significand(b: u64) -> u64
     requires { 0 < b }
     ensures { result ≡ significand b }
@@ -70,6 +73,7 @@ fn significand(b: u64) -> u64
 }
 
 // The exponent that goes with them, counted so that it is never negative.
+#[tactic(auto, using(crate::proofs::Scaled::exponent_low, crate::proofs::Scaled::exponent_high, crate::proofs::Scaled::leads))]
 fn exponent(b: u64) -> u64
     requires { 0 < b }
     ensures { result ≡ exponent b }
@@ -82,6 +86,7 @@ fn exponent(b: u64) -> u64
 }
 
 // The pattern of the root of the finite number above zero whose pattern is b. The exponent is halved, and the root's last digit is rounded away.
+#[tactic(auto, using(crate::proofs::Scaled::shifted, crate::proofs::Scaled::found, crate::proofs::Scaled::long_range, crate::proofs::Scaled::exponent_range, crate::proofs::Scaled::radicand_range, crate::proofs::Scaled::root_bits_is))]
 fn root_bits(b: u64) -> u64
     requires { (0 < b) × (b < infinity) }
     ensures { result ≡ root_bits b }
@@ -94,7 +99,7 @@ fn root_bits(b: u64) -> u64
 
 // `x.sqrt()`: the double nearest to the root of x, ties to even; of -0.0 it is -0.0, and of a number below zero a NaN.
 // The NaN leaves with the bits 7FF8000000000000, which no contract can say: the compiler makes `0.0 / 0.0` that constant.
-#[tactic(auto, using(crate::proofs::Cases::infinity_itself))]
+#[tactic(auto, using(float::proofs::Tested::invalid, float::proofs::Tested::has_bits, crate::proofs::Cases::infinity_itself, crate::proofs::Cases::root_nan, crate::proofs::Cases::root_below, crate::proofs::Cases::root_zero, crate::proofs::Cases::is_above, crate::proofs::Cases::bits_range, crate::proofs::Cases::root_above, crate::proofs::Cases::root_lt_infinity, crate::proofs::Cases::root_no_nan))]
 pub fn sqrt(x: f64) -> f64
     ensures { result ≡ sqrt_of x }
 {
