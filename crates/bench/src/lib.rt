@@ -30,19 +30,21 @@ fn bench(set: &[u8], out: &mut [u8], kind: AnovaKind) -> u32
         return 12;
     }
     let a = set::set_anova(set, kind);
-    if let Err(refusal) = a.refusal.check() {
-        return refusal.number;
+    match a.refusal.check() {
+        Ok(()) => {
+            let figures = [
+                a.statistic,
+                a.df_between,
+                a.df_within,
+                a.ss_between,
+                a.ss_within,
+                a.ss_total,
+            ];
+            put_floats(out, &figures);
+            0
+        }
+        Err(refusal) => refusal.number,
     }
-    let figures = [
-        a.statistic,
-        a.df_between,
-        a.df_within,
-        a.ss_between,
-        a.ss_within,
-        a.ss_total,
-    ];
-    put_floats(out, &figures);
-    0
 }
 
 // Fisher's analysis: F, df between, df within, SS between, within and total, in the first 48 bytes of out.
