@@ -4,11 +4,11 @@ use Rattle.fisherline.proofs.Short.{refused_short}
 use Rattle.fisherline.proofs.Spaced.{puts_length}
 use Rattle.fisherline.proofs.answers.refused.Goals as goal
 
-pub counts_line-requires : goal.counts_line-requires
-counts_line-requires c = omega (arith, c.requires, refused_short c.args.r)
+pub line-requires : goal.line-requires
+line-requires c = omega (arith, c.requires, refused_short c.args.r)
 
 pub shape_of-out : goal.shape_of-out
-shape_of-out c = puts_length _ 0 _ c.counts_line.ensures
+shape_of-out c = puts_length _ 0 _ c.line.ensures
 
 pub returns : goal.returns
-returns c = c.counts_line.ensures
+returns c = c.line.ensures
