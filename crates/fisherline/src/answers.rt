@@ -41,7 +41,8 @@ impl Word for f64 {
     }
 }
 
-// Each number behind a space, from `at` on. The result is the place behind them.
+// Each number behind a space, from `at` on. The result is the place behind them: `puts` says it and the text in one equation, as `text::put` does, so `out` and the place are
+// no struct.
 fn put_words<T: Word>(out: &mut [u8], at: usize, xs: &[T]) -> usize
     requires { at + length (run (λ x. 32 ∷ T.word x) xs.now) ≤ length out.old }
     ensures { (out.new, result) ≡ puts out.old at (run (λ x. 32 ∷ T.word x) xs.now) }
@@ -64,6 +65,7 @@ fn line<T: Word>(out: &mut [u8], at: usize, name: &[u8], xs: &[T]) -> usize
     text::put(out, b, b"\n")
 }
 
+#[tactic(auto, using(crate::proofs::Short::refused_short, crate::proofs::Spaced::puts_length))]
 fn refused(out: &mut [u8], r: Refusal) -> usize
     requires { text_room ≤ length out.old }
     ensures { (out.new, result) ≡ puts out.old 0 (refused_text r) }

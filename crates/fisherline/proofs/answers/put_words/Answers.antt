@@ -1,7 +1,6 @@
 -- Each number is put where the one before it ended: what is left to put from number i on gives the whole.
-use Rattle.std.proofs.Common.{refl, ap, ◌∙◌, arith}
-use Rattle.text.specs.Put.{put_of}
-use Rattle.fisherline.proofs.Spaced.{spaced_turn, spaced_ends}
+use Rattle.std.proofs.Common.{refl, ◌∙◌, arith}
+use Rattle.fisherline.proofs.Spaced.{spaced_turn, item_put, spaced_ends}
 use Rattle.fisherline.proofs.answers.put_words.Goals as goal
 
 pub loop-x-init : goal.loop-x-init
@@ -10,7 +9,7 @@ loop-x-init g c = (refl, refl, refl)
 pub loop-x-preserved : goal.loop-x-preserved
 loop-x-preserved g c =
     let x = c.x-item.result in
-    let here = c.put-a-in-loop-x.ensures ∙ ap (λ y. put_of c.put-a.new.out c.put-a.result (g.T.Word.word y)) c.x-item.is in
+    let here = item_put g.T.Word.word c.args.xs.now c.loop-x.x-index x c.put-a.new.out c.put-a.result c.x-item.is c.put-a-in-loop-x.ensures in
     let t = spaced_turn g.T.Word.word c.args.xs.now x c.loop-x.x-index c.loop-x-test.true c.loop-x.out c.loop-x.a c.loop-x.invariant.1 (omega (arith, c.requires, c.loop-x.invariant.0)) c.loop-x.invariant.2
     c.put-a.ensures here in
     (t.0 ∙ c.loop-x.invariant.0, t.1, t.2)
