@@ -55,9 +55,12 @@ unfolding total
 added [] t = omega arith
 added (r ∷ rows) t = added rows (t + r.size) ∙ add_assoc t r.size (total (map size_of rows))
 
+pub sizes_added : (rows : List Row) → sum_by size_of rows ≡ total (map size_of rows)
+sizes_added rows = rw (added rows 0) (zero-add _)
+
 pub unsound_rows : (k : ℕ) (rows : List Row) → (outside 2 16 k || (list_any size_outside (take k rows) || ltb 512 (sum_by size_of (take k rows)))) ≡ unsound k (sizes_in k rows)
 unfolding unsound
-unsound_rows k rows = rw (any_outside (take k rows), added (take k rows) 0, zero-add, or_assoc (outside 2 16 k) (some_outside (sizes_in k rows)))
+unsound_rows k rows = rw (any_outside (take k rows), sizes_added (take k rows), or_assoc (outside 2 16 k) (some_outside (sizes_in k rows)))
 
 -- where there is none, each size lies between
 pub inside_at : (ns : List ℕ) (g : ℕ) → some_outside ns ≡ false → g < length ns → (2 ≤ get_or ns g 0) × (get_or ns g 0 ≤ 512)
