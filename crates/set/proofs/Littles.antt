@@ -5,7 +5,7 @@ use Prim.Native.Nat.{ℕ, zero, suc, ◌+◌, ◌*◌, ◌/◌, ◌<◌, ◌≤�
 use native.Mathlib.Omega.{arith}
 use native.Mathlib.Nat.{div-div-eq-div-mul}
 use lib.ListN.{length, drop, take, get_or, length-drop, length-map, get_or-map}
-use lib.Seq.{get_or-drop, length-take-le}
+use lib.Seq.{length-take-le}
 use Rattle.base.specs.Lists.{total, cut, words}
 use Rattle.base.proofs.Cuts.{total_turn}
 use Rattle.base.proofs.Words.{word_at, length_words}
@@ -14,32 +14,6 @@ use Rattle.std.specs.Int.{w16, w64, from_le_bytes, to_le_bytes}
 use Rattle.std.specs.Simd.{first_chunks}
 use Rattle.std.proofs.lemmas.List.{get_or_default}
 use Rattle.set.specs.Bytes.{little, bytes}
-
--- 256 to the k
-unfoldable room : ℕ → ℕ
-room zero = 1
-room (suc k) = 256 * room k
-
-abbrev pub Bytes : List ℕ → Type 0
-Bytes bs = (j : ℕ) → get_or bs j 0 < 256
-
-under_room : (bs : List ℕ) (k : ℕ) → Bytes bs → length bs ≤ k → little bs < room k
-unfolding little room
-under_room [] zero small h = omega arith
-under_room [] (suc k) small h = omega (arith, under_room [] k small (omega arith))
-under_room (b ∷ bs) zero small h = absurd (omega arith)
-under_room (b ∷ bs) (suc k) small h = omega (arith, small 0, under_room bs k (λ j. small (suc j)) (omega arith))
-
-bytes_take : (n : ℕ) (bs : List ℕ) → Bytes bs → Bytes (take n bs)
-bytes_take zero bs small j = omega arith
-bytes_take (suc n) [] small j = small j
-bytes_take (suc n) (b ∷ bs) small zero = small zero
-bytes_take (suc n) (b ∷ bs) small (suc j) = bytes_take n bs (λ i. small (suc i)) j
-
--- two bytes stand for less than 65,536
-pub little_two : (at : ℕ) (bs : List ℕ) → Bytes bs → length (take 2 (drop at bs)) ≤ 2 → little (take 2 (drop at bs)) < 65536
-unfolding room
-little_two at bs small h = under_room (take 2 (drop at bs)) 2 (bytes_take 2 (drop at bs) (λ j. rw get_or-drop (small (at + j)))) h
 
 -- the chunks that the code takes are the words
 first_words : (w m k : ℕ) (bs : List ℕ) → k ≤ m → take k (first_chunks w m bs) ≡ words w k bs
