@@ -5,6 +5,7 @@ ghost use Rattle.matrix_places.specs.Places.{most_contrasts};
 ghost use Rattle.matrix_eigen.specs.Qr.{wiped, column_of, less_column, project, projections, put_column, normalize, qr_column, qr_columns};
 
 // The first k places become 0.
+#[tactic(auto, using(crate::proofs::Calls::wiped_part))]
 pub fn wipe(m: &mut [f64], k: usize)
     requires { (k ≤ length m.old) × (k ≤ scratch_places) }
     ensures { m.new ≡ wiped k m.old }
@@ -43,6 +44,7 @@ pub fn project(a: &[f64], q: &[f64], n: usize, j: usize, i: usize, v: &mut [f64]
 }
 
 // The projections onto all columns before column j.
+#[tactic(auto, using(base::proofs::Loops::step, base::proofs::Loops::ends), unfolding(crate::specs::Qr::projections))]
 pub fn projections(a: &[f64], q: &[f64], n: usize, j: usize, v: &mut [f64], r: &mut [f64])
     requires { (j < n) × ((n ≤ most_contrasts) × ((n * n ≤ length a.now) × ((n * n ≤ length q.now) × ((n ≤ length v.old) × (n * n ≤ length r.old))))) }
     ensures { (v.new, r.new) ≡ projections n a.now q.now j (v.old, r.old) }
@@ -87,6 +89,7 @@ pub fn qr_column(a: &[f64], n: usize, j: usize, q: &mut [f64], r: &mut [f64])
 }
 
 // All columns, where q and r hold zeros.
+#[tactic(auto, using(base::proofs::Loops::step, base::proofs::Loops::ends), unfolding(crate::specs::Qr::qr_columns))]
 pub fn qr_columns(a: &[f64], n: usize, q: &mut [f64], r: &mut [f64])
     requires { (n ≤ most_contrasts) × ((n * n ≤ length a.now) × ((n * n ≤ length q.old) × (n * n ≤ length r.old))) }
     ensures { (q.new, r.new) ≡ qr_columns n a.now (q.old, r.old) }

@@ -19,6 +19,7 @@ pub fn round(m: &mut [f64], n: usize)
 }
 
 // A hundred rounds.
+#[tactic(auto, using(base::proofs::Loops::step, base::proofs::Loops::ends), unfolding(crate::specs::Values::rounds))]
 pub fn rounds(m: &mut [f64], n: usize)
     requires { (0 < n) × ((n ≤ most_contrasts) × (n * n ≤ length m.old)) }
     ensures { m.new ≡ rounds n m.old }
