@@ -12,7 +12,7 @@ use Rattle.stats.specs.Figures.{mean_answer}
 use Rattle.stats.specs.Sums.{mean_of}
 use Rattle.oneway_rows.specs.declared.Row.{Row}
 use Rattle.oneway_rows.specs.Inner.{Parted}
-use Rattle.oneway_rows.specs.Rows.{row_of, rows_of, rows_answer, empty_rows}
+use Rattle.oneway_rows.specs.Rows.{row_of, rows_of, rows_put, empty_rows}
 use Rattle.oneway_rows.specs.Soundness.{sizes_in, sound_refusal}
 use Rattle.oneway_rows.proofs.Counted.{sound, sizes_added}
 use Rattle.oneway_rows.proofs.Laid.{rows_there, each_group, mean_there}
@@ -61,7 +61,7 @@ module _ (xs : List Float) (ns : List ℕ) (p : Parted (length xs) ns) where
       (each_group told_mean mean_of mean_there ns xs (omega (arith, p.sizes.adds)) p.sizes.readings p.each ∙ sym (map-map row_mean row_of (cut ns xs)))
 
   -- their rows, as the code has them
-  module _ {rows : List Row} (e : rows ≡ rows_answer xs ns) where
+  module _ {rows : List Row} (e : rows ≡ rows_put xs ns empty_rows) where
     pub own_rows : take (length ns) rows ≡ map row_of (cut ns xs)
     unfolding rows_of
     own_rows = rw (e, rows_there xs ns p) (take_at (map row_of (cut ns xs)) _ (length ns) as_many)
@@ -96,27 +96,27 @@ module _ (k : ℕ) (rows : List Row) (z : (sound_refusal k rows).number ≡ 0) w
       record { sizes = record { rows = simp (length-map, length-take) (omega (arith, s.high)); readings = omega (arith, s.fits); adds = e }; each = s.each }
 
   -- and their columns
-  module _ (h : length rows ≡ 16) {cols : List ℕ × List Float} (c : ◌≡◌ {A = List ℕ × List Float} cols (group_sizes (take k rows), group_means (take k rows))) where
-    pub held_sizes : take k cols.0 ≡ map size_of (take k rows)
-    held_sizes = column_front size_of (take k rows) no_sizes (rows_taken h) (ap (λ (x : List ℕ × List Float). x.0) c)
+  module _ (h : length rows ≡ 16) {ms : List Float} {ns : List ℕ} (c : ns ≡ group_sizes (take k rows)) (d : ms ≡ group_means (take k rows)) where
+    pub held_sizes : take k ns ≡ map size_of (take k rows)
+    held_sizes = column_front size_of (take k rows) no_sizes (rows_taken h) c
 
-    pub held_means : take k cols.1 ≡ map row_mean (take k rows)
-    held_means = column_front row_mean (take k rows) no_means (rows_taken h) (ap (λ (x : List ℕ × List Float). x.1) c)
+    pub held_means : take k ms ≡ map row_mean (take k rows)
+    held_means = column_front row_mean (take k rows) no_means (rows_taken h) d
 
-    pub sizes_held : k ≤ length cols.0
+    pub sizes_held : k ≤ length ns
     unfolding no_sizes
-    sizes_held = column_long size_of (take k rows) no_sizes (rows_taken h) (ap (λ (x : List ℕ × List Float). x.0) c) (sound k rows z).high
+    sizes_held = column_long size_of (take k rows) no_sizes (rows_taken h) c (sound k rows z).high
 
-    pub means_held : k ≤ length cols.1
+    pub means_held : k ≤ length ms
     unfolding no_means
-    means_held = column_long row_mean (take k rows) no_means (rows_taken h) (ap (λ (x : List ℕ × List Float). x.1) c) (sound k rows z).high
+    means_held = column_long row_mean (take k rows) no_means (rows_taken h) d (sound k rows z).high
 
-    pub held_parted : {n : ℕ} → total (sizes_in k rows) ≡ n → Parted n (take k cols.0) × (length (take k cols.1) ≡ length (take k cols.0))
+    pub held_parted : {n : ℕ} → total (sizes_in k rows) ≡ n → Parted n (take k ns) × (length (take k ms) ≡ length (take k ns))
     held_parted e = rw (held_sizes, held_means) (parted_rows e, length-map (take k rows) row_mean ∙ sym (length-map (take k rows) size_of))
 
 -- Fisher's formulas over the distances as they were put, and their rows
 module _ (ms : List Float) (ns : List ℕ) (xs : List Float) (e : length ms ≡ length ns) (p : Parted (length xs) ns) {out : List Float} (put : out ≡ flatten (distances ms (cut ns xs))) (back : List Float) where
-  pub fisher_of_put : {rows : List Row} → rows ≡ rows_answer (take (length xs) (out ++ back)) ns → fisher_anova (take (length ns) rows) (take (length xs) (out ++ back)) ≡ fisher_of (distances ms (cut ns xs))
+  pub fisher_of_put : {rows : List Row} → rows ≡ rows_put (take (length xs) (out ++ back)) ns empty_rows → fisher_anova (take (length ns) rows) (take (length xs) (out ++ back)) ≡ fisher_of (distances ms (cut ns xs))
   fisher_of_put q =
       let far : List (List Float) = distances ms (cut ns xs) in
       let groups = own_rows (take (length xs) (out ++ back)) ns (put_parted ms ns xs e p put back) q ∙ ap (map row_of) (put_cut ms ns xs e p put back) in

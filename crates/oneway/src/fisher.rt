@@ -34,7 +34,9 @@ pub fn fisher_anova(rows: &[Row], readings: &[f64]) -> OneWayAnovaResult
 {
     let k = rows.len();
     let n_total = summary::n_total(rows);
-    let (group_sizes, group_means) = summary::columns(rows);
+    let mut group_sizes = [0u32; base::MOST_GROUPS];
+    let mut group_means = [0.0; base::MOST_GROUPS];
+    summary::put_columns(&mut group_sizes, &mut group_means, rows);
     let grand_mean = float::canon(stats::sum(readings) / (n_total as f64));
     let ss_between = ss_between(rows, grand_mean);
     let ss_within = ss_within(rows);

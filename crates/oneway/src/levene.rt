@@ -7,6 +7,7 @@ ghost use Rattle.oneway.specs.Inner.{Given};
 ghost use Rattle.oneway.specs.Levene.{distance, distances, fisher_of};
 
 use crate::fisher;
+use oneway_rows::Row;
 use results::OneWayAnovaResult;
 
 // The distance of each reading of a group from `mean`, put into its place.
@@ -40,6 +41,7 @@ pub fn levene_anova(readings: &[f64], sizes: &[u32], means: &[f64]) -> OneWayAno
     let n = readings.len();
     let mut places = [0.0; base::MOST_READINGS];
     put_distances(&mut places[..n], readings, sizes, means);
-    let rows = oneway_rows::rows_of(&places[..n], sizes);
+    let mut rows = [Row::empty(); base::MOST_GROUPS];
+    oneway_rows::put_rows(&mut rows, &places[..n], sizes);
     fisher::fisher_anova(&rows[..sizes.len()], &places[..n])
 }

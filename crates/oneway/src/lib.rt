@@ -28,18 +28,21 @@ pub fn one_way_anova(readings: &[f64], sizes: &[u32], kind: AnovaKind) -> OneWay
         return results::refused(refusal);
     }
     let k = sizes.len();
+    let mut rows = [Row::empty(); base::MOST_GROUPS];
     match kind {
-        AnovaKind::Fisher => fisher::fisher_anova(
-            &oneway_rows::rows_of(readings, sizes)[..k],
-            readings,
-        ),
-        AnovaKind::Welch => welch::welch_anova(&oneway_rows::rows_of(readings, sizes)[..k]),
+        AnovaKind::Fisher => {
+            oneway_rows::put_rows(&mut rows, readings, sizes);
+            fisher::fisher_anova(&rows[..k], readings)
+        }
+        AnovaKind::Welch => {
+            oneway_rows::put_rows(&mut rows, readings, sizes);
+            welch::welch_anova(&rows[..k])
+        }
         // Levene's analysis looks at the means alone, and so does not work out the squares.
-        AnovaKind::Levene => levene::levene_anova(
-            readings,
-            sizes,
-            &summary::means_of(readings, sizes)[..k],
-        ),
+        AnovaKind::Levene => {
+            let means = summary::means_of(readings, sizes);
+            levene::levene_anova(readings, sizes, &means[..k])
+        }
     }
 }
 
@@ -65,7 +68,9 @@ pub fn report(
         AnovaKind::Fisher => fisher::fisher_anova(rows, readings),
         AnovaKind::Welch => welch::welch_anova(rows),
         AnovaKind::Levene => {
-            let (sizes, means) = summary::columns(rows);
+            let mut sizes = [0u32; base::MOST_GROUPS];
+            let mut means = [0.0; base::MOST_GROUPS];
+            summary::put_columns(&mut sizes, &mut means, rows);
             levene::levene_anova(readings, &sizes[..k], &means[..k])
         }
     }

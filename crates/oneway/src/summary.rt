@@ -1,11 +1,10 @@
 // What every analysis tells of its groups, from their rows. Zeros stand behind the groups' numbers.
 ghost use Rattle.std.specs.Prelude.{◌≡◌, ◌≤◌, map, length};
 ghost use Rattle.std.specs.List.{sum_by};
-ghost use Rattle.base.specs.Limits.{most_groups};
-ghost use Rattle.base.specs.Lists.{cut};
+ghost use Rattle.base.specs.Lists.{cut, over};
 ghost use Rattle.oneway_rows.specs.Inner.{Parted};
 ghost use Rattle.oneway_rows.specs.Rows.{row_of};
-ghost use Rattle.oneway.specs.Summary.{size_of, group_sizes, group_means};
+ghost use Rattle.oneway.specs.Summary.{size_of, row_mean, group_means};
 ghost use Rattle.oneway.specs.Inner.{Small};
 
 use oneway_rows::Row;
@@ -18,18 +17,16 @@ pub fn n_total(rows: &[Row]) -> u32
     rows.iter().map(|row| row.size).sum()
 }
 
-// The rows' sizes and means. A caller's rows need not come from readings, so that a mean may be any NaN.
-pub fn columns(rows: &[Row]) -> ([u32; base::MOST_GROUPS], [f64; base::MOST_GROUPS])
-    requires { length rows.now ≤ most_groups }
-    ensures { result ≡ (group_sizes rows.now, group_means rows.now) }
+// Puts the rows' sizes and means into their places. A caller's rows need not come from readings, so that a mean may be any NaN.
+pub fn put_columns(sizes: &mut [u32], means: &mut [f64], rows: &[Row])
+    requires { (length rows.now ≤ length sizes.old) × (length rows.now ≤ length means.old) }
+    ensures sizes { sizes.new ≡ over (map size_of rows.now) sizes.old }
+    ensures means { means.new ≡ over (map row_mean rows.now) means.old }
 {
-    let mut sizes = [0u32; base::MOST_GROUPS];
-    let mut means = [0.0; base::MOST_GROUPS];
     for (g, row) in rows.iter().enumerate() {
         sizes[g] = row.size;
         means[g] = float::canon(row.mean);
     }
-    (sizes, means)
 }
 
 // The means alone, of groups that passed the checks.

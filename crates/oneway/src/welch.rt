@@ -3,7 +3,7 @@ ghost use Rattle.std.specs.Prelude.{◌≡◌, ◌≤◌, length};
 ghost use Rattle.base.specs.Limits.{most_groups};
 ghost use Rattle.base.specs.Lists.{over};
 ghost use Rattle.stats.specs.Sums.{sum_by};
-ghost use Rattle.oneway.specs.Inner.{Small, none_weighed};
+ghost use Rattle.oneway.specs.Inner.{Small};
 ghost use Rattle.oneway.specs.Welch.{weigh, all_weighed, sum_weights, mean_in, spread_about, rest_of, welch_sums, welch_test, welch_anova};
 
 use crate::summary;
@@ -50,20 +50,14 @@ fn weigh(row: &Row, k: u32) -> Weighed
     }
 }
 
-// The rows weighed, and zeros behind them.
-fn weigh_all(rows: &[Row]) -> [Weighed; base::MOST_GROUPS]
-    requires { length rows.now ≤ most_groups }
-    ensures { result ≡ over (all_weighed rows.now) none_weighed }
+// Puts the rows, weighed, into the places of `out`.
+fn put_weighed(out: &mut [Weighed], rows: &[Row])
+    requires { (length rows.now ≤ length out.old) × (length rows.now ≤ most_groups) }
+    ensures { out.new ≡ over (all_weighed rows.now) out.old }
 {
-    let mut weighed = [Weighed {
-        size: 0,
-        mean: 0.0,
-        weight: 0.0,
-    }; base::MOST_GROUPS];
     for (g, row) in rows.iter().enumerate() {
-        weighed[g] = weigh(row, rows.len() as u32);
+        out[g] = weigh(row, rows.len() as u32);
     }
-    weighed
 }
 
 #[tactic(auto, unfolding(stats::specs::Sums::sum_by))]
@@ -138,8 +132,15 @@ pub fn welch_anova(rows: &[Row]) -> OneWayAnovaResult
     ensures { result ≡ welch_anova rows.now }
 {
     let k = rows.len();
-    let (group_sizes, group_means) = summary::columns(rows);
-    let weighed = weigh_all(rows);
+    let mut group_sizes = [0u32; base::MOST_GROUPS];
+    let mut group_means = [0.0; base::MOST_GROUPS];
+    summary::put_columns(&mut group_sizes, &mut group_means, rows);
+    let mut weighed = [Weighed {
+        size: 0,
+        mean: 0.0,
+        weight: 0.0,
+    }; base::MOST_GROUPS];
+    put_weighed(&mut weighed, rows);
     let test = welch_test(k as u32, welch_sums(&weighed[..k]));
     OneWayAnovaResult {
         refusal: Refusal::none(),

@@ -20,7 +20,7 @@ use Rattle.stats.specs.Figures.{mean_refusal, mean_answer, refused_figure}
 use Rattle.stats.specs.Sums.{mean_of, sq_dev}
 use Rattle.oneway_rows.specs.Inner.{Parted}
 use Rattle.oneway_rows.specs.Soundness.{outside, some_outside}
-use Rattle.oneway_rows.specs.Rows.{row_of, row_answer, no_row, rows_of, rows_answer}
+use Rattle.oneway_rows.specs.Rows.{row_of, row_answer, no_row, rows_of, rows_put, empty_rows}
 use Rattle.oneway_rows.proofs.Counted.{inside}
 
 -- the row of 1 to 512 readings is worked out
@@ -74,7 +74,7 @@ each_group f h same (n ∷ ns) xs l u e =
     rw (same (take n xs) (omega (arith, q, inside 2 512 n p.0)) (omega (arith, q)), each_group f h same ns (drop n xs) (omega arith) (omega arith) p.1)
 
 -- the rows of groups that passed the checks
-pub rows_there : (xs : List Float) (ns : List ℕ) → Parted (length xs) ns → rows_answer xs ns ≡ rows_of (cut ns xs)
-unfolding rows_answer rows_of
+pub rows_there : (xs : List Float) (ns : List ℕ) → Parted (length xs) ns → rows_put xs ns empty_rows ≡ rows_of (cut ns xs)
+unfolding rows_put rows_of empty_rows
 rows_there xs ns p =
     rw (take_all 16 ns p.sizes.rows, each_group row_answer row_of row_there ns xs (omega (arith, p.sizes.adds)) p.sizes.readings p.each)

@@ -33,9 +33,9 @@ empty_rows = replicate most_groups empty_row
 unfoldable pub rows_of : List (List Float) → List Row
 rows_of groups = over (map row_of groups) empty_rows
 
--- the call: the rows of the first 16 groups, each as `row_answer` says, and empty rows behind them
-unfoldable pub rows_answer : List Float → List ℕ → List Row
-rows_answer xs ns = over (map row_answer (cut (take most_groups ns) xs)) empty_rows
+-- the call: the row of each group, as `row_answer` says, in the places of `out`, as far as there are places; the places beyond keep what they hold
+unfoldable pub rows_put : List Float → List ℕ → List Row → List Row
+rows_put xs ns out = over (map row_answer (cut (take (length out) ns) xs)) out
 
 abbrev pub refused_stats : Refusal → GroupStats
 refused_stats r = record { refusal = r; n_groups = 0; rows = empty_rows }

@@ -4,7 +4,7 @@
 pub mod sound;
 
 ghost use Rattle.std.specs.Prelude.{◌≡◌};
-ghost use Rattle.oneway_rows.specs.Rows.{empty_row, row_answer, rows_answer, refused_stats, validate_anova_groups};
+ghost use Rattle.oneway_rows.specs.Rows.{empty_row, row_answer, rows_put, refused_stats, validate_anova_groups};
 
 use base::Refusal;
 
@@ -56,19 +56,17 @@ impl Row {
     }
 }
 
-// The rows of the first 16 groups, each as `Row::of` hands it out, and empty rows behind them. Where there are fewer readings than the sizes say, the last groups are shorter.
-pub fn rows_of(readings: &[f64], sizes: &[u32]) -> [Row; base::MOST_GROUPS]
-    ensures { result ≡ rows_answer readings.now sizes.now }
+// Puts the row of each group into its place, as `Row::of` hands it out, as far as there are places. Where there are fewer readings than the sizes say, the last groups are shorter.
+pub fn put_rows(out: &mut [Row], readings: &[f64], sizes: &[u32])
+    ensures { out.new ≡ rows_put readings.now sizes.now out.old }
 {
-    let mut rows = [Row::empty(); base::MOST_GROUPS];
-    let k = base::MOST_GROUPS.min(sizes.len());
+    let k = out.len().min(sizes.len());
     let mut rest = readings;
     for (g, size) in sizes[..k].iter().enumerate() {
         let (group, behind) = rest.split_at((*size as usize).min(rest.len()));
-        rows[g] = Row::of(group);
+        out[g] = Row::of(group);
         rest = behind;
     }
-    rows
 }
 
 #[tactic(auto, unfolding(crate::specs::Rows::empty_rows))]
@@ -87,11 +85,15 @@ pub fn validate_anova_groups(readings: &[f64], sizes: &[u32]) -> GroupStats
     ensures { result ≡ validate_anova_groups readings.now sizes.now }
 {
     match oneway_checks::one_way_refusal(readings, sizes) {
-        Ok(()) => GroupStats {
-            refusal: Refusal::none(),
-            n_groups: sizes.len(),
-            rows: rows_of(readings, sizes),
-        },
+        Ok(()) => {
+            let mut rows = [Row::empty(); base::MOST_GROUPS];
+            put_rows(&mut rows, readings, sizes);
+            GroupStats {
+                refusal: Refusal::none(),
+                n_groups: sizes.len(),
+                rows,
+            }
+        }
         Err(refusal) => refused(refusal),
     }
 }

@@ -4,7 +4,7 @@ use borrow.Author.Tests.{eqb-false}
 use lib.Seq.{length-take-le}
 use Rattle.base.proofs.Order.{answers_refused, was_passed, was_refused}
 use Rattle.oneway_rows.proofs.Counted.{sound, sizes_added}
-use Rattle.results.specs.Results.{refused_result}
+use Rattle.results.specs.Results.{refused_result, no_sizes, no_means}
 use Rattle.oneway.specs.declared.AnovaKind.TheVariants.{Fisher, Welch, Levene}
 use Rattle.oneway.specs.Anova.{anova, rows_report}
 use Rattle.oneway.proofs.Distances.{levene_of}
@@ -51,22 +51,27 @@ unfolding anova
 returns-in-Welch c = rw c.in-Welch.is (c.welch_anova.ensures ∙ sym (report_sound Welch c.args.k c.args.rows c.args.readings.now (was_passed _ tt c.rows_refusal.ensures c.in_default.is) (sym (c.n_total-needed.ensures ∙ sizes_added (take c.args.k c.args.rows)) ∙ c.if-needed-readings.false)))
 
 pub slice_bounds-sizes-end : goal.slice_bounds-sizes-end
-slice_bounds-sizes-end c = sizes_held c.args.k c.args.rows (was_passed _ tt c.rows_refusal.ensures c.in_default.is) (search rules) c.columns.ensures
+unfolding no_sizes no_means
+slice_bounds-sizes-end c = sizes_held c.args.k c.args.rows (was_passed _ tt c.rows_refusal.ensures c.in_default.is) (search rules) c.put_columns.ensures.sizes c.put_columns.ensures.means
 
 pub slice_bounds-levene_anova-end : goal.slice_bounds-levene_anova-end
-slice_bounds-levene_anova-end c = sym (length-take-le _ _ (sizes_held c.args.k c.args.rows (was_passed _ tt c.rows_refusal.ensures c.in_default.is) (search rules) c.columns.ensures))
+unfolding no_sizes no_means
+slice_bounds-levene_anova-end c = sym (length-take-le _ _ (sizes_held c.args.k c.args.rows (was_passed _ tt c.rows_refusal.ensures c.in_default.is) (search rules) c.put_columns.ensures.sizes c.put_columns.ensures.means))
 
 pub slice_bounds-means-end : goal.slice_bounds-means-end
-slice_bounds-means-end c = means_held c.args.k c.args.rows (was_passed _ tt c.rows_refusal.ensures c.in_default.is) (search rules) c.columns.ensures
+unfolding no_sizes no_means
+slice_bounds-means-end c = means_held c.args.k c.args.rows (was_passed _ tt c.rows_refusal.ensures c.in_default.is) (search rules) c.put_columns.ensures.sizes c.put_columns.ensures.means
 
 pub slice_bounds-levene_anova-end-in-Levene : goal.slice_bounds-levene_anova-end-in-Levene
-slice_bounds-levene_anova-end-in-Levene c = sym (length-take-le _ _ (means_held c.args.k c.args.rows (was_passed _ tt c.rows_refusal.ensures c.in_default.is) (search rules) c.columns.ensures))
+unfolding no_sizes no_means
+slice_bounds-levene_anova-end-in-Levene c = sym (length-take-le _ _ (means_held c.args.k c.args.rows (was_passed _ tt c.rows_refusal.ensures c.in_default.is) (search rules) c.put_columns.ensures.sizes c.put_columns.ensures.means))
 
 pub levene_anova-requires : goal.levene_anova-requires
-levene_anova-requires c = held_parted c.args.k c.args.rows (was_passed _ tt c.rows_refusal.ensures c.in_default.is) (search rules) c.columns.ensures (sym (c.n_total-needed.ensures ∙ sizes_added (take c.args.k c.args.rows)) ∙ c.if-needed-readings.false)
+unfolding no_sizes no_means
+levene_anova-requires c = held_parted c.args.k c.args.rows (was_passed _ tt c.rows_refusal.ensures c.in_default.is) (search rules) c.put_columns.ensures.sizes c.put_columns.ensures.means (sym (c.n_total-needed.ensures ∙ sizes_added (take c.args.k c.args.rows)) ∙ c.if-needed-readings.false)
 
 pub returns-in-Levene : goal.returns-in-Levene
-unfolding anova
+unfolding anova no_sizes no_means
 returns-in-Levene c =
     let n : length c.args.rows ≡ 16 = search rules in
-    rw c.in-Levene.is (c.levene_anova.ensures ∙ levene_of (take c.args.k c.args.rows) _ (held_means c.args.k c.args.rows (was_passed _ tt c.rows_refusal.ensures c.in_default.is) n c.columns.ensures) (held_sizes c.args.k c.args.rows (was_passed _ tt c.rows_refusal.ensures c.in_default.is) n c.columns.ensures) ∙ sym (report_sound Levene c.args.k c.args.rows c.args.readings.now (was_passed _ tt c.rows_refusal.ensures c.in_default.is) (sym (c.n_total-needed.ensures ∙ sizes_added (take c.args.k c.args.rows)) ∙ c.if-needed-readings.false)))
+    rw c.in-Levene.is (c.levene_anova.ensures ∙ levene_of (take c.args.k c.args.rows) _ (held_means c.args.k c.args.rows (was_passed _ tt c.rows_refusal.ensures c.in_default.is) n c.put_columns.ensures.sizes c.put_columns.ensures.means) (held_sizes c.args.k c.args.rows (was_passed _ tt c.rows_refusal.ensures c.in_default.is) n c.put_columns.ensures.sizes c.put_columns.ensures.means) ∙ sym (report_sound Levene c.args.k c.args.rows c.args.readings.now (was_passed _ tt c.rows_refusal.ensures c.in_default.is) (sym (c.n_total-needed.ensures ∙ sizes_added (take c.args.k c.args.rows)) ∙ c.if-needed-readings.false)))

@@ -1,10 +1,11 @@
 -- The definition's operations in its order.
 use Rattle.oneway.specs.Fisher.{fisher_anova}
 use Rattle.oneway_rows.proofs.Counted.{sizes_added}
+use Rattle.results.specs.Results.{no_sizes, no_means}
 use Rattle.oneway.proofs.fisher.fisher_anova.Goals as goal
 
 pub returns : goal.returns
-unfolding fisher_anova
+unfolding fisher_anova no_sizes no_means
 returns c =
     rw (
       c.canon-2.ensures,
@@ -20,5 +21,6 @@ returns c =
       c.sum.ensures,
       c.n_total-n_total.ensures,
       sizes_added c.args.rows.now,
-      c.columns.ensures,
+      c.put_columns.ensures.sizes,
+      c.put_columns.ensures.means,
     )

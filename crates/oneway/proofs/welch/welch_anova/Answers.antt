@@ -4,10 +4,11 @@ use lib.ListN.{take, length-map}
 use lib.Seq.{take_at}
 use Rattle.oneway.specs.Welch.{all_weighed, welch_anova}
 use Rattle.oneway_rows.proofs.Counted.{sizes_added}
+use Rattle.results.specs.Results.{no_sizes, no_means}
 use Rattle.oneway.proofs.welch.welch_anova.Goals as goal
 
 pub returns : goal.returns
-unfolding welch_anova
+unfolding welch_anova no_sizes no_means
 returns c =
-    let front : take (length c.args.rows.now) c.weigh_all-weighed.result ≡ all_weighed c.args.rows.now = rw c.weigh_all-weighed.ensures (take_at (all_weighed c.args.rows.now) _ _ (length-map _ _)) in
-    rw (c.none.ensures, c.welch_test-test.ensures, c.welch_sums.ensures, front, c.n_total.ensures, sizes_added c.args.rows.now, c.columns.ensures)
+    let front : take (length c.args.rows.now) c.put_weighed.new.out ≡ all_weighed c.args.rows.now = rw c.put_weighed.ensures (take_at (all_weighed c.args.rows.now) _ _ (length-map _ _)) in
+    rw (c.none.ensures, c.welch_test-test.ensures, c.welch_sums.ensures, front, c.n_total.ensures, sizes_added c.args.rows.now, c.put_columns.ensures.sizes, c.put_columns.ensures.means)

@@ -4,10 +4,10 @@ use mathlib.Core.List.{map}
 use lib.ListN.{length, drop}
 use lib.Seq.{sets}
 use Rattle.base.specs.Lists.{cut}
-use Rattle.oneway_rows.specs.Rows.{row_answer, rows_answer}
-use Rattle.oneway_rows.proofs.rows_of.Given as goal
+use Rattle.oneway_rows.specs.Rows.{row_answer, rows_put}
+use Rattle.oneway_rows.proofs.put_rows.Given as goal
 
 abbrev pub invariant-loop-g : goal.invariant-loop-g
 invariant-loop-g l =
-    (length l.rows ≡ 16)
-    × (sets l.rows l.g (map row_answer (cut (drop l.g l.size-items) l.rest)) ≡ rows_answer l.readings l.sizes)
+    (length l.out ≡ length l.initial.out)
+    × (sets l.out l.g (map row_answer (cut (drop l.g l.size-items) l.rest)) ≡ rows_put l.readings l.sizes l.initial.out)

@@ -2,14 +2,12 @@
 use Rattle.std.proofs.Common.{refl}
 use lib.ListN.{length-set}
 use Rattle.base.proofs.Fills.{fill_starts, fill_step, fill_ends}
-use Rattle.results.specs.Results.{no_sizes, no_means}
 use Rattle.oneway_rows.proofs.Counted.{unread}
 use Rattle.oneway.specs.Summary.{size_of, row_mean}
-use Rattle.oneway.proofs.summary.columns.Goals as goal
+use Rattle.oneway.proofs.summary.put_columns.Goals as goal
 
 pub loop-g-init : goal.loop-g-init
-unfolding no_sizes no_means
-loop-g-init c = (refl, refl, fill_starts size_of _ _ c.requires, fill_starts row_mean _ _ c.requires)
+loop-g-init c = (refl, refl, fill_starts size_of _ _ c.requires.0, fill_starts row_mean _ _ c.requires.1)
 
 pub loop-g-preserved : goal.loop-g-preserved
 loop-g-preserved c = (
@@ -19,8 +17,8 @@ loop-g-preserved c = (
   fill_step row_mean _ unread c.loop-g.means c.loop-g.g _ c.loop-g.invariant.3 c.loop-g-test.true c.canon.ensures,
 )
 
-pub returns : goal.returns
-returns c =
-    let sizes = fill_ends size_of _ c.loop-g.sizes c.loop-g.g c.loop-g.invariant.2 c.loop-g-test.false in
-    let means = fill_ends row_mean _ c.loop-g.means c.loop-g.g c.loop-g.invariant.3 c.loop-g-test.false in
-    rw (sizes, means)
+pub returns-clause-sizes : goal.returns-clause-sizes
+returns-clause-sizes c = fill_ends size_of _ c.loop-g.sizes c.loop-g.g c.loop-g.invariant.2 c.loop-g-test.false
+
+pub returns-clause-means : goal.returns-clause-means
+returns-clause-means c = fill_ends row_mean _ c.loop-g.means c.loop-g.g c.loop-g.invariant.3 c.loop-g-test.false
