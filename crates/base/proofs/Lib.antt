@@ -16,3 +16,4 @@ pub mod Edits
 pub mod Moves
 pub mod Sizes
 pub mod Histories
+pub mod Judged
