@@ -21,3 +21,11 @@ module _ {A : Type 0} (q : Refusal) (a : A) {x : Result ⊤ Refusal} (told : x �
 
     pub asks_further : {y : Result A Refusal} → x ≡ Ok tt → y ≡ judged s a → y ≡ judged (q or_else s) a
     asks_further e p = rw (second_asked q s (was_passed q tt told e)) p
+
+-- what a caller learns from the answer b that it was handed
+module _ {A : Type 0} (q : Refusal) (a : A) {x : Result A Refusal} (told : x ≡ judged q a) where
+  pub was_answered : {b : A} → x ≡ Ok b → b ≡ a
+  was_answered e = ap held (sym e ∙ told ∙ judged_passed q a (was_passed q a told e))
+    where
+      held : Result A Refusal → A
+      held x = elim x [ Ok b ↦ b | Err e ↦ a ]
