@@ -27,7 +27,7 @@ pub fn other_count(counts: &[usize]) -> usize
 
 // n means, the first of them s, each d further on, added up from 0.0.
 fn mean_line(means: &[f64], s: usize, d: usize, n: usize) -> f64
-    requires { (length means.now ≤ most_cells) × Line (length means.now) s d n }
+    requires { Line (length means.now) s d n }
     ensures { result ≡ mean_line means.now s d n }
 {
     let mut t = 0.0;
@@ -40,7 +40,7 @@ fn mean_line(means: &[f64], s: usize, d: usize, n: usize) -> f64
 
 // The mean of the n cells' means at each of m levels: the levels' first cells lie e apart, and a level's cells d apart.
 fn mean_margins(means: &[f64], m: usize, e: usize, d: usize, n: usize) -> [f64; base::MOST_LEVELS]
-    requires { (length means.now ≤ most_cells) × ((m ≤ most_levels) × ((n ≤ most_levels) × ((m * e ≤ most_cells) × ((i : ℕ) → i < m → Line (length means.now) (i * e) d n)))) }
+    requires { (m ≤ most_levels) × (n ≤ most_levels) × (m * e ≤ most_cells) × ((i : ℕ) → i < m → Line (length means.now) (i * e) d n) }
     ensures { result ≡ mean_margins means.now m e d n }
 {
     let mut out = [0.0; base::MOST_LEVELS];
@@ -61,7 +61,7 @@ fn ab_row(
     s: usize,
     b: usize,
 ) -> f64
-    requires { (b ≤ most_levels) × ((s + b ≤ length means.now) × (length means.now ≤ most_cells)) }
+    requires { (b ≤ most_levels) × (s + b ≤ length means.now) }
     ensures { result ≡ ab_row means.now mean_a means_b.now grand_mean r s b t }
 {
     let mut u = t;
@@ -81,7 +81,7 @@ fn ss_ab(
     a: usize,
     b: usize,
 ) -> f64
-    requires { (a ≤ most_levels) × ((b ≤ most_levels) × ((a * b ≤ length means.now) × (length means.now ≤ most_cells))) }
+    requires { (a ≤ most_levels) × (b ≤ most_levels) × (a * b ≤ length means.now) }
     ensures { result ≡ ss_ab means.now means_a.now means_b.now grand_mean r a b }
 {
     let mut t = 0.0;
