@@ -14,20 +14,20 @@ unfolding counts_of
 loop-u-init c = (refl, (λ d. let z = no_count most_counts d in omega (arith, z)), refl)
 
 pub bounds-counts-cell_of : goal.bounds-counts-cell_of
-bounds-counts-cell_of c = place_below _ _ _ _ c.requires.0 c.requires.1 c.cell_of.ensures
+bounds-counts-cell_of c = place_below _ _ _ _ c.args.levels.in_range.1 c.args.levels.in_range.3 c.cell_of.ensures
 
 pub overflow_add-counts : goal.overflow_add-counts
 overflow_add-counts c =
     let z = zip_turn c.args.factor_a.now c.args.factor_b.now c.loop-u.yielded _ c.loop-u.u-iterator c.next.new.self c.next.result (search rules) (search rules) c.loop-u.yielded_by _ c.in-Some.is c.next.ensures.steps in
-    omega (arith, c.loop-u.invariant.1 c.cell_of.result, z.0, c.requires.3)
+    omega (arith, c.loop-u.invariant.1 c.cell_of.result, z.0, c.requires.1)
 
 pub bounds-counts-cell_of-in-loop-u : goal.bounds-counts-cell_of-in-loop-u
-bounds-counts-cell_of-in-loop-u c = place_below _ _ _ _ c.requires.0 c.requires.1 c.cell_of.ensures
+bounds-counts-cell_of-in-loop-u c = place_below _ _ _ _ c.args.levels.in_range.1 c.args.levels.in_range.3 c.cell_of.ensures
 
 pub loop-u-preserved : goal.loop-u-preserved
 loop-u-preserved c =
     let z = zip_turn c.args.factor_a.now c.args.factor_b.now c.loop-u.yielded _ c.loop-u.u-iterator c.next.new.self c.next.result (search rules) (search rules) c.loop-u.yielded_by _ c.in-Some.is c.next.ensures.steps in
-    let p = place_below _ _ _ _ c.requires.0 c.requires.1 c.cell_of.ensures in
+    let p = place_below _ _ _ _ c.args.levels.in_range.1 c.args.levels.in_range.3 c.cell_of.ensures in
     rw (length-append c.loop-u.yielded ((c.in-Some.u, c.in-Some.v) ∷ [])) (
       simp length-set c.loop-u.invariant.0,
       (λ d. omega (arith, c.loop-u.invariant.1 d, one_more_lem c.loop-u.counts c.cell_of.result d (omega (arith, p, c.loop-u.invariant.0)))),
@@ -37,4 +37,4 @@ loop-u-preserved c =
 pub returns : goal.returns
 returns c =
     let n = zip_end c.args.factor_a.now c.args.factor_b.now c.loop-u.yielded _ c.loop-u.u-iterator c.next.new.self c.next.result (search rules) (search rules) c.loop-u.yielded_by c.in-None.is c.next.ensures.steps in
-    ends _ _ _ _ _ c.loop-u.invariant.2 (omega (arith, n, c.requires.2))
+    ends _ _ _ _ _ c.loop-u.invariant.2 (omega (arith, n, c.requires.0))
