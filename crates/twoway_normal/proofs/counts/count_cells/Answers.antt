@@ -1,10 +1,10 @@
 -- Each reading adds one in the place of its cell, which is one of the 49.
-use Rattle.std.proofs.Common.{rules, ◌≡◌, refl, ap, ◌∙◌, arith, [], ◌∷◌}
-use lib.ListN.{get_or, length-set, length-append}
+use Rattle.std.proofs.Common.{rules, refl, ap, ◌∙◌, arith, [], ◌∷◌}
+use lib.ListN.{length-set, length-append}
 use Rattle.std.proofs.lemmas.Slice.Zip.{zip_turn, zip_end}
 use Rattle.base.specs.Lists.{bump}
 use Rattle.base.proofs.Loops.{step, ends}
-use Rattle.twoway_normal.specs.Counted.{cell_of, counts_of, most_counts}
+use Rattle.twoway_normal.specs.Counted.{counts_of, most_counts}
 use Rattle.twoway_normal.proofs.Coded.{place_below}
 use Rattle.twoway_normal.proofs.Tallies.{no_count, one_more_lem}
 use Rattle.twoway_normal.proofs.counts.count_cells.Goals as goal

@@ -1,11 +1,9 @@
 -- The products go to the system and the row of codes behind it: two parts of the lent memory that do not meet.
-use Prim.Native.Nat.{◌+◌, ◌-◌, ◌*◌, ◌≤◌}
+use Prim.Native.Nat.{◌+◌, ◌-◌, ◌*◌}
 use mathlib.Core.Path.{◌≡◌, ap, ◌∙◌}
 use native.Mathlib.Omega.{arith}
 use lib.ListN.{length}
-use Rattle.base.specs.Limits.{scratch_places}
-use Rattle.base.proofs.Bounds.{row_end}
-use Rattle.twoway_normal.specs.Counted.{cells_of, cell_row}
+use Rattle.twoway_normal.specs.Counted.{cell_row}
 use Rattle.twoway_normal.specs.Equations.{rows_from}
 use Rattle.twoway_normal.proofs.Built.{row_length}
 use Rattle.twoway_normal.proofs.Keeping.{Room, rows_room, cell_room, passed_over, cell_lent}

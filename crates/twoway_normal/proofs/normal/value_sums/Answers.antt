@@ -1,15 +1,13 @@
 -- Each reading finds the row of its cell, which is kept since the cell has a reading.
-use Prim.Native.Nat.{ℕ, ◌+◌, ◌*◌, ◌≤◌}
-use mathlib.Core.Path.{◌≡◌, refl, ap, ◌∙◌}
+use Prim.Native.Nat.{ℕ, ◌*◌}
+use mathlib.Core.Path.{refl, ap, ◌∙◌}
 use mathlib.Core.List.{List}
 use native.Mathlib.Omega.{arith}
-use lib.ListN.{length, get_or}
+use lib.ListN.{get_or}
 use lib.Ieee.{Float, nan}
-use Rattle.base.proofs.Bounds.{row_end}
 use Rattle.base.proofs.Loops.{step, ends}
 use Rattle.lent.specs.Wiping.{zeros}
 use Rattle.matrix_places.specs.Places.{at}
-use Rattle.twoway_normal.specs.Counted.{cell_of, cells_of}
 use Rattle.twoway_normal.specs.Inner.{add_value}
 use Rattle.twoway_normal.proofs.Coded.{row_within}
 use Rattle.twoway_normal.proofs.Readings.{add_reading, values_walk}
