@@ -21,8 +21,8 @@ fn add_row(x: &[f64], n: f64, w: usize, j: usize, m: &mut [f64])
 {
     let f = n * x[j];
     let p = j * w;
-    for k in 0..w {
-        m[p + k] += f * x[k];
+    for (k, code) in x[..w].iter().enumerate() {
+        m[p + k] += f * code;
     }
 }
 
@@ -72,8 +72,8 @@ fn add_value(rows: &[f64], q: usize, p: usize, y: f64, sums: &mut [f64])
     requires { (q + p ≤ length rows.now) × (p ≤ length sums.old) }
     ensures { sums.new ≡ add_value q p rows.now y sums.old }
 {
-    for j in 0..p {
-        sums[j] += product(rows[q + j], y);
+    for (j, code) in rows[q..q + p].iter().enumerate() {
+        sums[j] += product(*code, y);
     }
 }
 
@@ -102,8 +102,8 @@ fn put_column(sums: &[f64], p: usize, m: &mut [f64])
     requires { (p ≤ length sums.now) × (p * (p + 1) ≤ length m.old) }
     ensures { m.new ≡ put_column p sums.now m.old }
 {
-    for j in 0..p {
-        m[j * (p + 1) + p] = float::canon(sums[j]);
+    for (j, sum) in sums[..p].iter().enumerate() {
+        m[j * (p + 1) + p] = float::canon(*sum);
     }
 }
 
