@@ -17,3 +17,4 @@ pub mod Moves
 pub mod Sizes
 pub mod Histories
 pub mod Judged
+pub mod Rests

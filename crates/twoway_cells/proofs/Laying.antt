@@ -1,30 +1,18 @@
 -- The laws of the sort, from what the code that lays the readings knows.
-use mathlib.Core.Path.{◌≡◌, sym, ap, ◌∙◌}
+use mathlib.Core.Path.{◌≡◌, sym, ◌∙◌}
 use mathlib.Core.List.{List, [], ◌∷◌, flatten}
 use mathlib.Core.Logic.{◌⊎◌, inl, inr}
 use Prim.Native.Nat.{ℕ, ◌+◌, ◌*◌, ◌≤◌, ◌<◌}
 use native.Mathlib.Omega.{arith}
 use lib.Ieee.{Float, nan}
-use native.Mathlib.Numerals.{add-one}
-use lib.ListN.{length, get_or, set, drop, length-drop}
-use lib.Seq.{drop-cons}
+use lib.ListN.{length, get_or, set, drop}
 use Rattle.base.specs.Lists.{over}
+use Rattle.base.proofs.Rests.{first_left, over_at}
 use Rattle.twoway_checks.specs.Inner.{keys, sorted}
 use Rattle.twoway_checks.proofs.Keys.{Below, coded_keys, coded_below, coded_here, coded_key, coded_place}
 use Rattle.twoway_cells.specs.Inner.{Tallied}
 use Rattle.twoway_cells.specs.Starts.{starts_of}
 use Rattle.twoway_cells.proofs.Sorts.{Placed, placed_none, place_within, placed_one, placed_all}
-
--- what is left from i on begins with x, or is nothing
-module _ {A : Type 0} (xs : List A) (i : ℕ) where
-  first_left : (d : A) {x : A} {rest : List A} → drop i xs ≡ x ∷ rest → (i < length xs) × (x ≡ get_or xs i d) × (rest ≡ drop (i + 1) xs)
-  first_left d e =
-      let h : i < length xs = omega (arith, ap length e, length-drop i xs) in
-      let p = sym e ∙ drop-cons xs i d h in
-      (h, ap (λ (l : List A). get_or l 0 d) p, rw add-one (ap (drop 1) p))
-
-  over_at : drop i xs ≡ [] → length xs ≤ i
-  over_at e = omega (arith, ap length e, length-drop i xs)
 
 -- i readings are laid: what is left of them and of their codes, and where they lie
 pub record Laying (xs : List Float) (us vs : List ℕ) (b : ℕ) (s₀ : List Float) (i : ℕ) (rest : List Float) (rest_a rest_b : List ℕ) (s : List Float) (next : List ℕ) : Type 0 where

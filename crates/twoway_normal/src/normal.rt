@@ -90,9 +90,9 @@ fn value_sums(
 {
     let p = levels.a * levels.b;
     let mut sums = [0.0; base::MOST_CELLS];
-    for i in 0..values.len() {
-        let c = cell_of(levels, factor_a[i], factor_b[i]);
-        add_value(rows, c * p, p, values[i], &mut sums);
+    for ((y, u), v) in values.iter().zip(factor_a).zip(factor_b) {
+        let c = cell_of(levels, *u, *v);
+        add_value(rows, c * p, p, *y, &mut sums);
     }
     sums
 }
