@@ -38,6 +38,7 @@ fn products_of(x: &mut [f64], levels: Levels, ka: usize)
     ensures { x.new ≡ products_of levels.a levels.b ka x.old }
 {
     let Levels { a, b } = levels;
+    // By number: one row is read and written.
     for kb in 0..b - 1 {
         x[a + (b - 1) + (ka * (b - 1) + kb)] = x[1 + ka] * x[a + kb];
     }

@@ -16,6 +16,7 @@ pub fn cell_of(levels: Levels, u: u32, v: u32) -> usize
     (u as usize).min(a) * (b + 1) + (v as usize).min(b)
 }
 
+// Not one function with the tally of twoway_checks: that one has fewer places and wider counts, and takes no code beyond the levels.
 pub fn count_cells(factor_a: &[u32], factor_b: &[u32], levels: Levels) -> [u32; MOST_COUNTS]
     requires { (length factor_b.now ≡ length factor_a.now) × (length factor_a.now ≤ most_readings) }
     ensures { result ≡ counts_of factor_a.now factor_b.now levels.a levels.b }

@@ -36,6 +36,7 @@ fn wald_row(beta: &[f64], cov: &[f64], p: usize, s: usize, n: usize, i: usize, s
 {
     let f = beta[(s + i) * (p + 1) + p];
     let mut t = ss;
+    // By number: the coefficients lie p + 1 places apart.
     for j in 0..n {
         t += f * cov[i * (2 * n) + n + j] * beta[(s + j) * (p + 1) + p];
     }
