@@ -16,3 +16,5 @@ pub mod Edits
 pub mod Moves
 pub mod Sizes
 pub mod Histories
+pub mod Judged
+pub mod Rests

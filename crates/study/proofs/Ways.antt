@@ -1,5 +1,5 @@
 -- The ways through a study: refused by two-way's checks, refused for want of balance, answered.
-use mathlib.Core.Path.{◌≡◌, sym, ap, ◌∙◌}
+use mathlib.Core.Path.{◌≡◌, refl, sym, ap, ◌∙◌}
 use mathlib.Core.List.{List}
 use Prim.Native.Nat.{ℕ, ◌*◌, ◌≤◌, ◌<◌}
 use native.Mathlib.Omega.{arith}
@@ -9,12 +9,14 @@ use lib.ListN.{length, get_or, take, length-append, length-replicate, length-dro
 use lib.Seq.{get_or-take, length-take-le}
 use Rattle.base.specs.declared.Refusal.{Refusal}
 use Rattle.base.specs.Lists.{over}
-use Rattle.base.proofs.Order.{first_wins, second_asked, passed_answer, refused_answer}
+use Rattle.base.proofs.Order.{first_wins, second_asked, passed_answer, refused_answer, was_passed, was_refused}
+use Rattle.base.proofs.Judged.{was_answered}
+use Rattle.base.specs.Refusals.{verdict}
+use Rattle.std.specs.Prelude.{Result, Ok, Err, ⊤}
 use Rattle.twoway_checks.specs.declared.TwoWayData.{TwoWayData}
 use Rattle.twoway_checks.specs.Cells.{cell_counts}
 use Rattle.twoway_checks.specs.Checks.{levels, two_way_refusal}
-use Rattle.twoway_checks.specs.Data.{checked_data}
-use Rattle.twoway_checks.proofs.Answers.{refusal_told, passed_told, data_told}
+use Rattle.twoway_checks.specs.Data.{checked_data, two_way_data}
 use Rattle.twoway_cells.specs.Organized.{cell_order, organize_two_way_data, left_alone}
 use Rattle.twoway_cells.proofs.Designs.{Held, held}
 use Rattle.lent.specs.Wiping.{wiped, zeros}
@@ -25,30 +27,31 @@ use Rattle.study.specs.declared.GaugeStudy.{GaugeStudy}
 use Rattle.study.specs.Study.{balance_refusal, study_refusal, refused_study, components_of, gauge_study}
 use Rattle.study.specs.Study.{untouched as alone}
 
-module _ (xs : List Float) (us vs : List ℕ) (scratch : List Float) (d : TwoWayData) (e : d ≡ checked_data xs us vs (length scratch)) where
-  -- refused by two-way's checks
-  pub not_passed : (r : GaugeStudy) → (d.refusal.number ≡ 0 → ⊥) → r ≡ refused_study d.refusal → ◌≡◌ {A = List Float × GaugeStudy} (scratch, r) (gauge_study xs us vs scratch)
-  unfolding gauge_study study_refusal
-  not_passed r n q =
-      let w = refusal_told xs us vs (length scratch) d e in
-      let m : (two_way_refusal xs us vs (length scratch)).number ≡ 0 → ⊥ = λ z. n (ap (λ (x : Refusal). x.number) w ∙ z) in
-      rw (q, w, first_wins (two_way_refusal xs us vs (length scratch)) (balance_refusal (cell_counts (levels us) (levels vs) xs us vs)) m) (sym (refused_answer (two_way_refusal xs us vs (length scratch)) (alone scratch) _ m))
+-- the answer x of two-way's checks
+module _ (xs : List Float) (us vs : List ℕ) (scratch : List Float) {x : Result TwoWayData Refusal} (e : x ≡ checked_data xs us vs (length scratch)) where
+  -- refused by them
+  pub not_passed : (r : GaugeStudy) {s : Refusal} → x ≡ Err s → r ≡ refused_study s → ◌≡◌ {A = List Float × GaugeStudy} (scratch, r) (gauge_study xs us vs scratch)
+  unfolding checked_data gauge_study study_refusal
+  not_passed r p q =
+      let w = was_refused (two_way_refusal xs us vs (length scratch)) _ e p in
+      rw (q, ← w.0, first_wins (two_way_refusal xs us vs (length scratch)) (balance_refusal (cell_counts (levels us) (levels vs) xs us vs)) w.1) (sym (refused_answer (two_way_refusal xs us vs (length scratch)) (alone scratch) _ w.1))
 
--- two-way's checks were asked, and passed
+-- two-way's checks were asked, and handed back the design d
 pub record Checked (xs : List Float) (us vs : List ℕ) (scratch : List Float) (d : TwoWayData) : Type 0 where
-  pub asked : d ≡ checked_data xs us vs (length scratch)
-  pub passed : d.refusal.number ≡ 0
+  pub passed : (two_way_refusal xs us vs (length scratch)).number ≡ 0
+  pub handed : d ≡ two_way_data (levels us) (levels vs) xs us vs
+
+pub checked : (xs : List Float) (us vs : List ℕ) (scratch : List Float) {x : Result TwoWayData Refusal} {d : TwoWayData} → x ≡ checked_data xs us vs (length scratch) → x ≡ Ok d → Checked xs us vs scratch d
+unfolding checked_data
+checked xs us vs scratch e p = record { passed = was_passed (two_way_refusal xs us vs (length scratch)) _ e p; handed = was_answered (two_way_refusal xs us vs (length scratch)) _ e p }
 
 module _ (xs : List Float) (us vs : List ℕ) (scratch : List Float) (d : TwoWayData) (k : Checked xs us vs scratch d) where
-  told : (two_way_refusal xs us vs (length scratch)).number ≡ 0
-  told = passed_told xs us vs (length scratch) d k.asked k.passed
-
   -- the design as if its readings had been laid into the scratch
   pub design : Held xs us vs scratch (over (cell_order (levels us) (levels vs) xs us vs) scratch) d
   unfolding organize_two_way_data
   design =
-      held xs us vs scratch _ d
-      (rw (data_told xs us vs (length scratch) d k.asked k.passed) (sym (passed_answer (two_way_refusal xs us vs (length scratch)) (left_alone scratch) _ told))) k.passed
+      held xs us vs scratch _ {x = Ok d}
+      (rw k.handed (sym (passed_answer (two_way_refusal xs us vs (length scratch)) (left_alone scratch) _ k.passed))) refl
 
   abbrev a : ℕ
   a = d.levels_a
@@ -68,19 +71,19 @@ module _ (xs : List Float) (us vs : List ℕ) (scratch : List Float) (d : TwoWay
 
   both : (study_refusal xs us vs (length scratch)) ≡ balance_refusal (take (a * b) d.cell_n)
   unfolding study_refusal
-  both = rw are_counts (second_asked (two_way_refusal xs us vs (length scratch)) _ told)
+  both = rw are_counts (second_asked (two_way_refusal xs us vs (length scratch)) _ k.passed)
 
   -- refused for want of balance
-  pub not_balanced : (u : Refusal) (r : GaugeStudy) → u ≡ balance_refusal (take (a * b) d.cell_n) → (u.number ≡ 0 → ⊥) → r ≡ refused_study u → ◌≡◌ {A = List Float × GaugeStudy} (scratch, r) (gauge_study xs us vs scratch)
+  pub not_balanced : {u : Result ⊤ Refusal} {s : Refusal} (r : GaugeStudy) → u ≡ verdict (balance_refusal (take (a * b) d.cell_n)) → u ≡ Err s → r ≡ refused_study s → ◌≡◌ {A = List Float × GaugeStudy} (scratch, r) (gauge_study xs us vs scratch)
   unfolding gauge_study
-  not_balanced u r p n q =
-      let w : u ≡ study_refusal xs us vs (length scratch) = p ∙ sym both in
-      rw (q, w) (sym (refused_answer (study_refusal xs us vs (length scratch)) (alone scratch) _ (λ y. n (ap (λ (x : Refusal). x.number) w ∙ y))))
+  not_balanced r p e q =
+      let w = was_refused (study_refusal xs us vs (length scratch)) tt (rw (← both) at p) e in
+      rw (q, ← w.0) (sym (refused_answer (study_refusal xs us vs (length scratch)) (alone scratch) _ w.1))
 
   module _ (after : List Float) (t : TwoWayAnovaResult) (q : ◌≡◌ {A = List Float × TwoWayAnovaResult} (after, t) (two_way_anova xs us vs scratch)) where
     table : ◌≡◌ {A = List Float × TwoWayAnovaResult} (after, t) (wiped scratch, two_way_of xs us vs (levels us) (levels vs))
     unfolding two_way_anova
-    table = q ∙ passed_answer (two_way_refusal xs us vs (length scratch)) (untouched scratch) _ told
+    table = q ∙ passed_answer (two_way_refusal xs us vs (length scratch)) (untouched scratch) _ k.passed
 
     is_table : t ≡ two_way_of xs us vs (levels us) (levels vs)
     is_table = ap (λ (x : List Float × TwoWayAnovaResult). x.1) table
@@ -98,9 +101,9 @@ module _ (xs : List Float) (us vs : List ℕ) (scratch : List Float) (d : TwoWay
     after_length = rw (ap (λ (x : List Float × TwoWayAnovaResult). x.0) table) (simp (length-append, length-replicate, length-drop) (omega (arith, design.lent, design.long)))
 
     -- answered
-    pub answered : (u : Refusal) (r : GaugeStudy) → u ≡ balance_refusal (take (a * b) d.cell_n) → u.number ≡ 0 → r ≡ components_of t (get_or d.cell_n 0 0) → ◌≡◌ {A = List Float × GaugeStudy} (after, r) (gauge_study xs us vs scratch)
+    pub answered : {u : Result ⊤ Refusal} (r : GaugeStudy) → u ≡ verdict (balance_refusal (take (a * b) d.cell_n)) → u ≡ Ok tt → r ≡ components_of t (get_or d.cell_n 0 0) → ◌≡◌ {A = List Float × GaugeStudy} (after, r) (gauge_study xs us vs scratch)
     unfolding gauge_study
-    answered u r p y w =
+    answered r p y w =
         let first : get_or d.cell_n 0 0 ≡ get_or (cell_counts (levels us) (levels vs) xs us vs) 0 0 = sym (get_or-take (a * b) d.cell_n 0 0 some) ∙ ap (λ (ns : List ℕ). get_or ns 0 0) are_counts in
         let s : after ≡ wiped scratch = ap (λ (x : List Float × TwoWayAnovaResult). x.0) table in
-        rw (w, s, is_table, first) (sym (passed_answer (study_refusal xs us vs (length scratch)) (alone scratch) _ (ap (λ (x : Refusal). x.number) (both ∙ sym p) ∙ y)))
+        rw (w, s, is_table, first) (sym (passed_answer (study_refusal xs us vs (length scratch)) (alone scratch) _ (was_passed _ tt (rw (← both) at p) y)))

@@ -3,6 +3,7 @@
 
 ghost use Rattle.std.specs.Prelude.{◌≡◌, ◌*◌, ◌≤◌, length};
 ghost use Rattle.base.specs.Limits.{most_levels, most_readings};
+ghost use Rattle.base.specs.Refusals.{verdict};
 ghost use Rattle.study.specs.Study.{balance_refusal, study_refusal, refused_study, component_of, components_of, gauge_study};
 
 use base::Refusal;
@@ -27,7 +28,7 @@ fn refused(refusal: Refusal) -> GaugeStudy
     ensures { result ≡ refused_study refusal }
 {
     GaugeStudy {
-        refusal: refusal,
+        refusal,
         meters: 0,
         benches: 0,
         readings: 0,
@@ -40,16 +41,17 @@ fn refused(refusal: Refusal) -> GaugeStudy
 }
 
 // Whether all cells have as many readings as the first; else how many it has, and how many the first that differs.
-fn balance_refusal(counts: &[usize]) -> Refusal
+#[tactic(auto, unfolding(crate::specs::Study::balance_refusal))]
+fn balance_refusal(counts: &[usize]) -> Result<(), Refusal>
     requires { 1 ≤ length counts.now }
-    ensures { result ≡ balance_refusal counts.now }
+    ensures { result ≡ verdict (balance_refusal counts.now) }
 {
     let first = counts[0];
     let other = twoway_balanced::other_count(counts);
     if other == first {
-        return Refusal::none();
+        return Ok(());
     }
-    Refusal::new(10, first as u64, other as u64)
+    Err(Refusal::new(10, first as u64, other as u64))
 }
 
 // One component: what a mean square has more than another, over n readings; +0.0 where it has less. The test is of the difference: a quotient below zero may round to -0.0, which is not below zero.
@@ -85,9 +87,9 @@ fn components(t: TwoWayAnovaResult, r: usize) -> GaugeStudy
         meters: a,
         benches: b,
         readings: r,
-        component_a: component_a,
-        component_b: component_b,
-        component_ab: component_ab,
+        component_a,
+        component_b,
+        component_ab,
         component_residual: ms_e,
         component_total: float::canon(component_a + component_b + component_ab + ms_e),
     }
@@ -102,17 +104,14 @@ pub fn gauge_study(
 ) -> GaugeStudy
     ensures { (scratch.new, result) ≡ gauge_study values.now factor_a.now factor_b.now scratch.old }
 {
-    let d = twoway_checks::check_two_way_data(values, factor_a, factor_b, scratch.len());
-    if d.refusal.number != 0 {
-        return refused(d.refusal);
-    }
+    let d = match twoway_checks::check_two_way_data(values, factor_a, factor_b, scratch.len()) {
+        Ok(d) => d,
+        Err(r) => return refused(r),
+    };
     let k = d.levels_a * d.levels_b;
-    let counts = d.cell_n;
-    let uneven = balance_refusal(&counts[..k]);
-    if uneven.number != 0 {
-        return refused(uneven);
+    if let Err(r) = balance_refusal(&d.cell_n[..k]) {
+        return refused(r);
     }
-    let first = counts[0];
     let t = twoway::two_way_anova(values, factor_a, factor_b, scratch);
-    components(t, first)
+    components(t, d.cell_n[0])
 }

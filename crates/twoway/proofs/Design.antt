@@ -5,8 +5,9 @@ use Prim.Native.Nat.{ℕ, ◌+◌, ◌-◌, ◌*◌, ◌≤◌}
 use native.Mathlib.Omega.{arith}
 use borrow.Author.Tests.{le-ltb, le-leb, eq-eqb, ne_eqb}
 use lib.Ieee.{Float}
-use lib.ListN.{length, get_or, take, drop, replicate, length-append, length-replicate, length-drop}
+use lib.ListN.{length, get_or, take, drop}
 use lib.Seq.{take-take, drop-drop, length-take-le}
+use Rattle.std.specs.Prelude.{Result, Err}
 use Rattle.base.specs.declared.Refusal.{Refusal}
 use Rattle.base.specs.Lists.{total, cut}
 use Rattle.base.proofs.Order.{passed_answer, refused_answer}
@@ -18,11 +19,9 @@ use Rattle.twoway_cells.proofs.Designs.{Held, cut_cells, which, left_alone_lem}
 use Rattle.twoway_means.specs.declared.CellTable.{CellTable}
 use Rattle.results.specs.declared.Effects.{Effects}
 use Rattle.twoway_balanced.specs.Squares.{other_count, balanced_ss}
-use Rattle.base.proofs.Loops.{listed_length}
-use Rattle.float.specs.Words.{plus_zero}
-use Rattle.twoway_means.specs.Table.{cell_table, table_fits, table_of, cell_mean, cell_means, no_cells}
+use Rattle.twoway_means.specs.Table.{cell_table, table_fits, table_of}
 use Rattle.twoway_normal.specs.Shape.{fits, factor_fits}
-use Rattle.lent.specs.Wiping.{wiped, zeros}
+use Rattle.lent.specs.Wiping.{wiped}
 use Rattle.twoway_type3.specs.Answer.{type3_ss, all_effects}
 use Rattle.twoway.specs.declared.TwoWayAnovaResult.{TwoWayAnovaResult}
 use Rattle.twoway.specs.Results.{answer_of, refused_result}
@@ -53,12 +52,12 @@ module _ (xs : List Float) (us vs : List ℕ) (a b : ℕ) (ms : List Float) (ns 
       rw (w, f, ne_eqb (other_count ns) (get_or ns 0 0) (λ z. q (told ∙ z)))
 
 -- a refused call
-pub refused_there : (xs : List Float) (us vs : List ℕ) (scratch after : List Float) (d : TwoWayData) (r : TwoWayAnovaResult) → (after, d) ≡ organize_two_way_data xs us vs scratch → (d.refusal.number ≡ 0 → ⊥) → r ≡ refused_result d.refusal
+pub refused_there : (xs : List Float) (us vs : List ℕ) (scratch after : List Float) {x : Result TwoWayData Refusal} {s : Refusal} (r : TwoWayAnovaResult) → (after, x) ≡ organize_two_way_data xs us vs scratch → x ≡ Err s → r ≡ refused_result s
     → ◌≡◌ {A = List Float × TwoWayAnovaResult} (after, r) (two_way_anova xs us vs scratch)
 unfolding two_way_anova
-refused_there xs us vs scratch after d r e n q =
-    let w = which xs us vs scratch after d e n in
-    rw (q, left_alone_lem xs us vs scratch after d e n, w) (sym (refused_answer (two_way_refusal xs us vs (length scratch)) (untouched scratch) _ (λ z. n (ap (λ (x : Refusal). x.number) w ∙ z))))
+refused_there xs us vs scratch after r e n q =
+    let w = which xs us vs scratch after e n in
+    rw (q, left_alone_lem xs us vs scratch after e n, ← w.0) (sym (refused_answer (two_way_refusal xs us vs (length scratch)) (untouched scratch) _ w.1))
 
 module _ (xs : List Float) (us vs : List ℕ) (scratch after : List Float) (d : TwoWayData) (h : Held xs us vs scratch after d) where
   abbrev a : ℕ
@@ -127,16 +126,3 @@ module _ (xs : List Float) (us vs : List ℕ) (scratch after : List Float) (d : 
       let l : left ≡ wiped after = ap (λ (x : List Float × Effects). x.0) q in
       let f : e ≡ squares_of xs us vs a b (take (a * b) t.cell_means) ns = ap (λ (x : List Float × Effects). x.1) q in
       rw (w, l, wiped_same, f, tt, h.counts, h.is_a, h.is_b) (sym (passed_answer (two_way_refusal xs us vs (length scratch)) (untouched scratch) _ z))
-
-  -- the cells' means have 36 places
-  pub means_wide : (t : CellTable) → t ≡ cell_table ns (take d.n_total after) a b → length t.cell_means ≡ 36
-  unfolding cell_means no_cells
-  means_wide t p = rw (p ∙ table_there) (listed_length (a * b) (cell_mean (cells a b xs us vs)) (replicate 36 plus_zero))
-
-  pub means_taken : (t : CellTable) → t ≡ cell_table ns (take d.n_total after) a b → length (take (a * b) t.cell_means) ≡ a * b
-  means_taken t p = length-take-le (a * b) t.cell_means (omega (arith, means_wide t p, h.few))
-
-  -- the scratch is as long as it was
-  pub left_length : (e : Effects) (left ms : List Float) → ◌≡◌ {A = List Float × Effects} (left, e) (squares_left xs us vs a b ms ns after) → length left ≡ length scratch
-  unfolding wiped zeros
-  left_length e left ms q = rw (ap (λ (x : List Float × Effects). x.0) q) (simp (length-append, length-replicate, length-drop) (omega (arith, h.lent, h.long)))

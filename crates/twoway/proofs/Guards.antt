@@ -8,6 +8,7 @@ use borrow.Author.Tests.{le-ltb, eq-eqb}
 use lib.Ieee.{Float}
 use lib.ListN.{length, get_or, take, replicate}
 use lib.Seq.{get_or-take, length-take-le}
+use Rattle.std.specs.Prelude.{Ok}
 use Rattle.base.specs.Lists.{over}
 use Rattle.base.proofs.Loops.{listed_length}
 use Rattle.base.proofs.Order.{passed_answer}
@@ -100,7 +101,7 @@ module _ (xs : List Float) (us vs : List ℕ) (scratch : List Float) (accepted :
 
   known : Held xs us vs scratch after (two_way_data a b xs us vs)
   unfolding organize_two_way_data
-  known = held xs us vs scratch after (two_way_data a b xs us vs) (sym (passed_answer (two_way_refusal xs us vs (length scratch)) (left_alone scratch) (after, two_way_data a b xs us vs) accepted)) refl
+  known = held xs us vs scratch after {x = Ok (two_way_data a b xs us vs)} (sym (passed_answer (two_way_refusal xs us vs (length scratch)) (left_alone scratch) (after, Ok (two_way_data a b xs us vs)) accepted)) refl
 
   pub guards_passed : Worked xs us vs a b
   guards_passed =

@@ -36,7 +36,7 @@ fn refused(refusal: Refusal) -> TwoWayAnovaResult
     ensures { result ≡ refused_result refusal }
 {
     TwoWayAnovaResult {
-        refusal: refusal,
+        refusal,
         factor_a: results::no_row(),
         factor_b: results::no_row(),
         interaction: results::no_row(),
@@ -63,22 +63,20 @@ pub fn two_way_anova(
 ) -> TwoWayAnovaResult
     ensures { (scratch.new, result) ≡ two_way_anova values.now factor_a.now factor_b.now scratch.old }
 {
-    let d = twoway_cells::organize_two_way_data(values, factor_a, factor_b, scratch);
-    if d.refusal.number != 0 {
-        return refused(d.refusal);
-    }
+    let d = match twoway_cells::organize_two_way_data(values, factor_a, factor_b, scratch) {
+        Ok(d) => d,
+        Err(r) => return refused(r),
+    };
     let a = d.levels_a;
     let b = d.levels_b;
-    let n = d.n_total;
-    let counts = d.cell_n;
-    let t = twoway_means::cell_table(&scratch[..n], &counts[..a * b], a, b);
-    let means = t.cell_means;
+    let k = a * b;
+    let t = twoway_means::cell_table(&scratch[..d.n_total], &d.cell_n[..k], a, b);
     let e = squares::squares(
         values,
         factor_a,
         factor_b,
-        &means[..a * b],
-        &counts[..a * b],
+        &t.cell_means[..k],
+        &d.cell_n[..k],
         a,
         b,
         scratch,

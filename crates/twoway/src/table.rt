@@ -12,29 +12,31 @@ pub fn answer(values: &[f64], a: usize, b: usize, t: CellTable, e: Effects) -> T
     requires { Small values.now a b }
     ensures { result ≡ answer_of values.now a b t e }
 {
+    let CellTable {
+        cell_means,
+        marginal_means_a,
+        marginal_means_b,
+        ss_error,
+    } = t;
     let n = values.len();
     let grand_mean = float::canon(stats::sum(values) / (n as f64));
     let ss_total = stats::sq_dev(values, grand_mean);
-    let residual = results::plain_row(t.ss_error, (n - a * b) as f64);
+    let residual = results::plain_row(ss_error, (n - a * b) as f64);
     let ms_error = residual.ms;
-    let cell_means = t.cell_means;
-    let means_a = t.marginal_means_a;
-    let means_b = t.marginal_means_b;
-    let skips = e.skips;
     TwoWayAnovaResult {
         refusal: Refusal::none(),
         factor_a: results::effect_row(e.ss_a, (a - 1) as f64, ms_error),
         factor_b: results::effect_row(e.ss_b, (b - 1) as f64, ms_error),
         interaction: results::effect_row(e.ss_ab, ((a - 1) * (b - 1)) as f64, ms_error),
-        residual: residual,
+        residual,
         total: results::plain_row(ss_total, (n - 1) as f64),
         levels_a: a,
         levels_b: b,
-        n: n,
-        grand_mean: grand_mean,
-        cell_means: cell_means,
-        marginal_means_a: means_a,
-        marginal_means_b: means_b,
-        skips: skips,
+        n,
+        grand_mean,
+        cell_means,
+        marginal_means_a,
+        marginal_means_b,
+        skips: e.skips,
     }
 }

@@ -1,13 +1,13 @@
 -- Laws of the lines of cells, and of the search for a count that differs.
-use mathlib.Core.Path.{◌≡◌, refl, sym}
+use mathlib.Core.Path.{◌≡◌, refl, sym, ◌∙◌}
 use mathlib.Core.List.{List, [], ◌∷◌}
-use Prim.Native.Nat.{ℕ, ◌+◌, ◌*◌, ◌≤◌, ◌<◌}
+use Prim.Native.Nat.{ℕ, ◌+◌, ◌-◌, ◌*◌, ◌≤◌, ◌<◌}
 use native.Mathlib.Numerals.{add-one}
 use native.Mathlib.Omega.{arith}
 use borrow.Author.Tests.{eq-eqb, ne_eqb}
-use lib.Ieee.{Float}
-use lib.ListN.{length, get_or, take, drop, replicate, length-set, drop_of_length-le}
-use lib.Seq.{drop-cons, length-take-le}
+use lib.Ieee.{Float, nan}
+use lib.ListN.{length, get_or, take, drop, replicate, length-set, length-take, length-drop, drop_of_length-le}
+use lib.Seq.{drop-cons, length-take-le, get_or-take, get_or-drop}
 use Rattle.base.proofs.Loops.{loop_length}
 use Rattle.float.specs.Words.{plus_zero}
 use Rattle.base.proofs.Bounds.{product_le}
@@ -45,3 +45,15 @@ module _ (n : ℕ) (ns : List ℕ) (c : ℕ) where
   pub unlike_nowhere : length ns ≤ c → unlike n (drop c ns) ≡ n
   unfolding unlike
   unlike_nowhere h = rw (drop_of_length-le ns h)
+
+-- cell i of the b cells from s on
+module _ (ms : List Float) (s b i : ℕ) (fits : s + b ≤ length ms) (h : i < length (take (s + b - s) (drop s ms))) where
+  pub among_row : i < b
+  among_row = let t = simp (length-take, length-drop) at h in omega (arith, t)
+
+  pub row_at : get_or (take (s + b - s) (drop s ms)) i nan ≡ get_or ms (s + i) nan
+  row_at = get_or-take (s + b - s) (drop s ms) i nan (omega (arith, among_row)) ∙ get_or-drop s ms i nan
+
+-- there are b of them
+pub row_long : (ms : List Float) (s b : ℕ) → s + b ≤ length ms → length (take (s + b - s) (drop s ms)) ≡ b
+row_long ms s b fits = simp (length-take, length-drop) (omega arith)

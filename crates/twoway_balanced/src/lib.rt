@@ -10,38 +10,37 @@ ghost use Rattle.twoway_balanced.specs.Inner.{Fitting};
 use results::Effects;
 
 // The first count that differs from the first of them; the first itself where none does, 0 where there is none.
+#[tactic(auto, unfolding(crate::specs::Squares::other_count, crate::specs::Squares::unlike))]
 pub fn other_count(counts: &[usize]) -> usize
     ensures { result ≡ other_count counts.now }
 {
-    if counts.len() == 0 {
+    let Some(first) = counts.first() else {
         return 0;
-    }
-    let first = counts[0];
-    let mut c = 0;
-    while c < counts.len() {
-        if counts[c] != first {
-            return counts[c];
+    };
+    for count in counts {
+        if count != first {
+            return *count;
         }
-        c += 1;
     }
-    first
+    *first
 }
 
 // n means, the first of them s, each d further on, added up from 0.0.
 fn mean_line(means: &[f64], s: usize, d: usize, n: usize) -> f64
-    requires { (length means.now ≤ most_cells) × Line (length means.now) s d n }
+    requires { Line (length means.now) s d n }
     ensures { result ≡ mean_line means.now s d n }
 {
     let mut t = 0.0;
     for q in 0..n {
-        t = t + means[s + q * d];
+        // By its number: step_by would ask that d is not 0.
+        t += means[s + q * d];
     }
     t
 }
 
 // The mean of the n cells' means at each of m levels: the levels' first cells lie e apart, and a level's cells d apart.
 fn mean_margins(means: &[f64], m: usize, e: usize, d: usize, n: usize) -> [f64; base::MOST_LEVELS]
-    requires { (length means.now ≤ most_cells) × ((m ≤ most_levels) × ((n ≤ most_levels) × ((m * e ≤ most_cells) × ((i : ℕ) → i < m → Line (length means.now) (i * e) d n)))) }
+    requires { (m ≤ most_levels) × (n ≤ most_levels) × (m * e ≤ most_cells) × ((i : ℕ) → i < m → Line (length means.now) (i * e) d n) }
     ensures { result ≡ mean_margins means.now m e d n }
 {
     let mut out = [0.0; base::MOST_LEVELS];
@@ -62,13 +61,13 @@ fn ab_row(
     s: usize,
     b: usize,
 ) -> f64
-    requires { (b ≤ most_levels) × ((s + b ≤ length means.now) × (length means.now ≤ most_cells)) }
+    requires { (b ≤ most_levels) × (s + b ≤ length means.now) }
     ensures { result ≡ ab_row means.now mean_a means_b.now grand_mean r s b t }
 {
     let mut u = t;
-    for j in 0..b {
-        let effect = means[s + j] - mean_a - means_b[j] + grand_mean;
-        u = u + r * (effect * effect);
+    for (mean, mean_b) in means[s..s + b].iter().zip(means_b) {
+        let effect = mean - mean_a - mean_b + grand_mean;
+        u += r * (effect * effect);
     }
     u
 }
@@ -82,12 +81,12 @@ fn ss_ab(
     a: usize,
     b: usize,
 ) -> f64
-    requires { (a ≤ most_levels) × ((b ≤ most_levels) × ((a * b ≤ length means.now) × (length means.now ≤ most_cells))) }
+    requires { (a ≤ most_levels) × (b ≤ most_levels) × (a * b ≤ length means.now) }
     ensures { result ≡ ss_ab means.now means_a.now means_b.now grand_mean r a b }
 {
     let mut t = 0.0;
-    for i in 0..a {
-        t = ab_row(t, means, means_a[i], means_b, grand_mean, r, i * b, b);
+    for (i, mean_a) in means_a[..a].iter().enumerate() {
+        t = ab_row(t, means, *mean_a, means_b, grand_mean, r, i * b, b);
     }
     t
 }
@@ -112,19 +111,15 @@ fn effects_of(means: &[f64], r: usize, a: usize, b: usize) -> Effects
 
 // The effects of A, B and their interaction, from the means of a by b cells of r readings each.
 // Zeros where there are too many levels, too many readings a cell, or not a mean for each cell.
+#[tactic(auto, unfolding(crate::specs::Squares::balanced_ss))]
 pub fn balanced_ss(means: &[f64], r: usize, a: usize, b: usize) -> Effects
     ensures { result ≡ balanced_ss means.now r a b }
 {
-    if base::MOST_LEVELS < a {
-        return results::no_effects();
-    }
-    if base::MOST_LEVELS < b {
-        return results::no_effects();
-    }
-    if base::MOST_READINGS < r {
-        return results::no_effects();
-    }
-    if means.len() != a * b {
+    if base::MOST_LEVELS < a
+        || base::MOST_LEVELS < b
+        || base::MOST_READINGS < r
+        || means.len() != a * b
+    {
         return results::no_effects();
     }
     effects_of(means, r, a, b)

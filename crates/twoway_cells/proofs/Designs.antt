@@ -1,5 +1,7 @@
 -- What a caller of `organize_two_way_data` knows of its answer, and where a cell's readings and its count are found.
 use mathlib.Core.Path.{◌≡◌, refl, sym, ap, ◌∙◌}
+use mathlib.Core.Bool.{Bool, true, false, cond}
+use lib.Dec.{eqb}
 use mathlib.Core.List.{List, [], ◌++◌}
 use Prim.Native.Nat.{ℕ, ◌+◌, ◌*◌, ◌≤◌, ◌<◌}
 use native.Mathlib.Nat.{zero-add}
@@ -8,10 +10,13 @@ use lib.Ieee.{Float}
 use lib.ListN.{length, get_or, take, drop, get_or-append, get_or-map}
 use lib.Seq.{take_at, drop_at}
 use Rattle.base.specs.declared.Refusal.{Refusal}
+use Rattle.std.specs.Prelude.{Result, Ok, Err}
+use Rattle.base.specs.Refusals.{judged, guarded}
 use Rattle.base.specs.Lists.{total, cut, over}
 use Rattle.base.proofs.Cuts.{cut_flatten, total_flatten}
 use Rattle.base.proofs.Runs.{length_over}
-use Rattle.base.proofs.Order.{passed_answer, refused_answer, told, told_which}
+use Rattle.base.proofs.Order.{passed_answer, refused_answer, was_passed, was_refused}
+use Rattle.base.proofs.Judged.{was_answered}
 use Rattle.twoway_checks.specs.declared.TwoWayData.{TwoWayData}
 use Rattle.twoway_checks.specs.Cells.{cell, numbered, cells, cell_counts}
 use Rattle.twoway_checks.specs.Checks.{levels, two_way_refusal}
@@ -65,33 +70,39 @@ pub record Answered (xs : List Float) (us vs : List ℕ) (scratch after : List F
   pub places : after ≡ over (cell_order (levels us) (levels vs) xs us vs) scratch
   pub design : d ≡ two_way_data (levels us) (levels vs) xs us vs
 
-abbrev refusal_in : List Float × TwoWayData → Refusal
-refusal_in p = p.1.refusal
+-- the answer x of any call
+module _ (xs : List Float) (us vs : List ℕ) (scratch after : List Float) {x : Result TwoWayData Refusal} (e : (after, x) ≡ organize_two_way_data xs us vs scratch) where
+  handed : x ≡ judged (two_way_refusal xs us vs (length scratch)) (two_way_data (levels us) (levels vs) xs us vs)
+  unfolding organize_two_way_data guarded
+  handed = ap (λ (p : List Float × Result TwoWayData Refusal). p.1) e ∙ go (eqb q.number 0)
+    where
+      d : TwoWayData
+      d = two_way_data (levels us) (levels vs) xs us vs
 
-module _ (xs : List Float) (us vs : List ℕ) (scratch after : List Float) (d : TwoWayData) (e : (after, d) ≡ organize_two_way_data xs us vs scratch) where
-  number_told : d.refusal.number ≡ (two_way_refusal xs us vs (length scratch)).number
+      q : Refusal
+      q = two_way_refusal xs us vs (length scratch)
+
+      go : (b : Bool) → (cond b (over (cell_order (levels us) (levels vs) xs us vs) scratch, Ok d) (left_alone scratch q)).1 ≡ cond b (Ok d) (Err q)
+      go true = refl
+      go false = refl
+
+  pub which : {r : Refusal} → x ≡ Err r → (two_way_refusal xs us vs (length scratch) ≡ r) × ((two_way_refusal xs us vs (length scratch)).number ≡ 0 → ⊥)
+  which p = was_refused _ _ handed p
+
+  pub left_alone_lem : {r : Refusal} → x ≡ Err r → after ≡ scratch
   unfolding organize_two_way_data
-  number_told = told (two_way_refusal xs us vs (length scratch)) (left_alone scratch) _ refusal_in (λ r. refl) refl e
+  left_alone_lem p = ap (λ (p : List Float × Result TwoWayData Refusal). p.0) (e ∙ refused_answer (two_way_refusal xs us vs (length scratch)) (left_alone scratch) _ (which p).1)
 
-  pub which : (d.refusal.number ≡ 0 → ⊥) → d.refusal ≡ two_way_refusal xs us vs (length scratch)
+  pub passes : {d : TwoWayData} → x ≡ Ok d → (two_way_refusal xs us vs (length scratch)).number ≡ 0
+  passes p = was_passed _ _ handed p
+
+  pub answered : {d : TwoWayData} → x ≡ Ok d → Answered xs us vs scratch after d
   unfolding organize_two_way_data
-  which n = told_which (two_way_refusal xs us vs (length scratch)) (left_alone scratch) _ refusal_in (λ r. refl) refl e n
-
-  pub left_alone_lem : (d.refusal.number ≡ 0 → ⊥) → after ≡ scratch
-  unfolding organize_two_way_data
-  left_alone_lem n = ap (λ (p : List Float × TwoWayData). p.0) (e ∙ refused_answer (two_way_refusal xs us vs (length scratch)) (left_alone scratch) _ (λ z. n (number_told ∙ z)))
-
-  pub passes : d.refusal.number ≡ 0 → (two_way_refusal xs us vs (length scratch)).number ≡ 0
-  passes z = sym number_told ∙ z
-
-  pub answered : d.refusal.number ≡ 0 → Answered xs us vs scratch after d
-  unfolding organize_two_way_data
-  answered z =
-      let p = e ∙ passed_answer (two_way_refusal xs us vs (length scratch)) (left_alone scratch) _ (passes z) in
+  answered p =
       record {
-        known = passed xs us vs (length scratch) (passes z);
-        places = ap (λ (q : List Float × TwoWayData). q.0) p;
-        design = ap (λ (q : List Float × TwoWayData). q.1) p;
+        known = passed xs us vs (length scratch) (passes p);
+        places = ap (λ (q : List Float × Result TwoWayData Refusal). q.0) (e ∙ passed_answer (two_way_refusal xs us vs (length scratch)) (left_alone scratch) _ (passes p));
+        design = was_answered _ _ handed p;
       }
 
 -- the same in terms of the answer alone, for code that goes on from it
@@ -173,7 +184,7 @@ module _ (xs : List Float) (us vs : List ℕ) (scratch : List Float) (p : Passed
         parts = rw first (cut_cells A B xs us vs _);
       }
 
-pub held : (xs : List Float) (us vs : List ℕ) (scratch after : List Float) (d : TwoWayData) → (after, d) ≡ organize_two_way_data xs us vs scratch → d.refusal.number ≡ 0 → Held xs us vs scratch after d
-held xs us vs scratch after d e z =
-    let a = answered xs us vs scratch after d e z in
+pub held : (xs : List Float) (us vs : List ℕ) (scratch after : List Float) {x : Result TwoWayData Refusal} {d : TwoWayData} → (after, x) ≡ organize_two_way_data xs us vs scratch → x ≡ Ok d → Held xs us vs scratch after d
+held xs us vs scratch after e z =
+    let a = answered xs us vs scratch after e z in
     rw (a.places, a.design) (held_design xs us vs scratch a.known)

@@ -38,9 +38,9 @@ module _ (ns : List ℕ) (few : length ns ≤ 36) where
     unfolding sums
     sums_turn h = rw add-one (rw (drop-cons ns c 0 h) at e)
 
-    pub sums_end : length ns ≤ c → set out c at ≡ over (sums 0 ns) no_starts
+    pub sums_end : c ≡ length ns → set out (length ns) at ≡ over (sums 0 ns) no_starts
     unfolding sums
-    sums_end h = rw (drop_of_length-le ns h) at e
+    sums_end h = let p : length ns ≤ c = omega arith in rw (← h) (rw (drop_of_length-le ns p) at e)
 
 -- the answers of the call
 pub too_many : (ns : List ℕ) → most_cells < length ns → no_starts ≡ starts_of ns

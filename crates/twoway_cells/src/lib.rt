@@ -7,6 +7,7 @@ ghost use Rattle.std.specs.Prelude.{◌≡◌};
 ghost use Rattle.twoway_cells.specs.Organized.{organize_two_way_data};
 ghost use Rattle.twoway_cells.specs.Starts.{starts_of};
 
+use base::Refusal;
 use twoway_checks::TwoWayData;
 
 // A place for the start of each cell, and one for where all end.
@@ -18,21 +19,19 @@ pub fn starts_of(counts: &[usize]) -> [usize; STARTS]
     ensures { result ≡ starts_of counts.now }
 {
     let none = [0usize; STARTS];
-    let mut starts = none;
     if base::MOST_CELLS < counts.len() {
         return none;
     }
+    let mut starts = none;
     let mut at = 0;
-    let mut c = 0;
-    while c < counts.len() {
-        if base::MOST_READINGS - at < counts[c] {
+    for (c, n) in counts.iter().enumerate() {
+        if base::MOST_READINGS - at < *n {
             return none;
         }
         starts[c] = at;
-        at += counts[c];
-        c += 1;
+        at += n;
     }
-    starts[c] = at;
+    starts[counts.len()] = at;
     starts
 }
 
@@ -42,16 +41,10 @@ pub fn organize_two_way_data(
     factor_a: &[u32],
     factor_b: &[u32],
     scratch: &mut [f64],
-) -> TwoWayData
+) -> Result<TwoWayData, Refusal>
     ensures { (scratch.new, result) ≡ organize_two_way_data values.now factor_a.now factor_b.now scratch.old }
 {
-    let d = twoway_checks::check_two_way_data(values, factor_a, factor_b, scratch.len());
-    let refusal = d.refusal;
-    if refusal.number != 0 {
-        return d;
-    }
-    let levels_b = d.levels_b;
-    let counts = d.cell_n;
-    sort::lay(values, factor_a, factor_b, levels_b, &counts, scratch);
-    d
+    let d = twoway_checks::check_two_way_data(values, factor_a, factor_b, scratch.len())?;
+    sort::lay(values, factor_a, factor_b, d.levels_b, &d.cell_n, scratch);
+    Ok(d)
 }

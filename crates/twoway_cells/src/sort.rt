@@ -18,12 +18,10 @@ pub fn lay(
     ensures { scratch.new ≡ over (flatten (sorted (keys levels_b factor_a.now factor_b.now) values.now)) scratch.old }
 {
     let mut next = crate::starts_of(counts);
-    let mut i = 0;
-    while i < values.len() {
-        let c = (factor_a[i] as usize) * levels_b + (factor_b[i] as usize);
+    for ((x, a), b) in values.iter().zip(factor_a).zip(factor_b) {
+        let c = (*a as usize) * levels_b + (*b as usize);
         let at = next[c];
-        scratch[at] = values[i];
+        scratch[at] = *x;
         next[c] = at + 1;
-        i += 1;
     }
 }

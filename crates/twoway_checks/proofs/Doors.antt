@@ -10,13 +10,15 @@ use lib.Dec.{ltb, eqb}
 use lib.Ieee.{Float}
 use lib.ListN.{length, get_or, take, replicate}
 use lib.Seq.{take_at}
+use Rattle.std.specs.Prelude.{Result, Ok, ⊤}
+use Rattle.base.specs.declared.Refusal.{Refusal}
 use Rattle.base.specs.Lists.{total, over}
-use Rattle.base.specs.Refusals.{refuse, when, unless, first_fault}
+use Rattle.base.specs.Refusals.{refuse, when, unless, first_fault, verdict}
 use Rattle.base.proofs.Bounds.{product_le}
 use Rattle.base.proofs.Faults.{both}
-use Rattle.base.proofs.Order.{both_passed, no_fault, needed_there}
+use Rattle.base.proofs.Order.{both_passed, no_fault, needed_there, was_passed}
 use Rattle.twoway_checks.specs.Cells.{cell_counts}
-use Rattle.twoway_checks.specs.Checks.{levels, shape_refusal, levels_refusal, empty_refusal, cells_refusal, two_way_refusal}
+use Rattle.twoway_checks.specs.Checks.{largest, levels, shape_refusal, levels_refusal, empty_refusal, cells_refusal, two_way_refusal}
 use Rattle.twoway_checks.specs.Inner.{Coded, Leveled, keys, tally}
 use Rattle.twoway_checks.specs.Data.{no_counts}
 use Rattle.twoway_checks.proofs.Keys.{length_counts, counts_padded, sorted_counts, coded_keys, coded_below}
@@ -78,6 +80,12 @@ leveled xs us vs lent a b h p q k =
       high_a = r.0;
       high_b = r.1;
     }
+
+-- the same from what both checks handed back, where m and n are the largest codes
+pub leveled_told : (xs : List Float) (us vs : List ℕ) (lent : ℕ) {x y : Result ⊤ Refusal} → x ≡ verdict (shape_refusal xs us vs lent) → x ≡ Ok tt
+    → (m n : ℕ) → m ≡ largest us → n ≡ largest vs → y ≡ verdict (levels_refusal (m + 1) (n + 1)) → y ≡ Ok tt → Leveled xs us vs (levels us) (levels vs)
+leveled_told xs us vs lent t e m n p q u f =
+    leveled xs us vs lent (levels us) (levels vs) (was_passed _ tt t e) refl refl (rw (← p, ← q) (was_passed _ tt u f))
 
 total_append : (ns ms : List ℕ) → total (ns ++ ms) ≡ total ns + total ms
 unfolding total

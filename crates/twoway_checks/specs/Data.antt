@@ -1,9 +1,9 @@
 -- What `check_two_way_data` answers.
-use Rattle.std.specs.Prelude.{ℕ, List, Float, length, replicate}
+use Rattle.std.specs.Prelude.{ℕ, List, Float, length, replicate, Result}
 use Rattle.base.specs.declared.Refusal.{Refusal}
 use Rattle.base.specs.Limits.{most_cells}
 use Rattle.base.specs.Lists.{over}
-use Rattle.base.specs.Refusals.{none, guarded}
+use Rattle.base.specs.Refusals.{judged}
 use Rattle.twoway_checks.specs.declared.TwoWayData.{TwoWayData}
 use Rattle.twoway_checks.specs.Cells.{cell_counts}
 use Rattle.twoway_checks.specs.Checks.{levels, two_way_refusal}
@@ -12,15 +12,11 @@ use Rattle.twoway_checks.specs.Checks.{levels, two_way_refusal}
 unfoldable pub no_counts : List ℕ
 no_counts = replicate most_cells 0
 
--- the refused answer: the refusal, and 0 everywhere else
-abbrev pub refused_data : Refusal → TwoWayData
-refused_data r = record { refusal = r; levels_a = 0; levels_b = 0; n_total = 0; cell_n = no_counts }
-
 -- the design of a levels and b levels: the cells' counts, and 0 in the unused places
 abbrev pub two_way_data : ℕ → ℕ → List Float → List ℕ → List ℕ → TwoWayData
 two_way_data a b xs us vs =
-    record { refusal = none; levels_a = a; levels_b = b; n_total = length xs; cell_n = over (cell_counts a b xs us vs) no_counts }
+    record { levels_a = a; levels_b = b; n_total = length xs; cell_n = over (cell_counts a b xs us vs) no_counts }
 
--- the design behind all the checks
-unfoldable pub checked_data : List Float → List ℕ → List ℕ → ℕ → TwoWayData
-checked_data xs us vs lent = guarded (two_way_refusal xs us vs lent) refused_data (two_way_data (levels us) (levels vs) xs us vs)
+-- the design behind all the checks, or the refusal in its place
+unfoldable pub checked_data : List Float → List ℕ → List ℕ → ℕ → Result TwoWayData Refusal
+checked_data xs us vs lent = judged (two_way_refusal xs us vs lent) (two_way_data (levels us) (levels vs) xs us vs)

@@ -4,11 +4,9 @@ use Rattle.std.specs.Prelude.{ℕ, ◌<◌, ◌≤◌, ◌+◌, ◌*◌, ◌≡�
 use mathlib.Core.List.{List, [], ◌∷◌, foldl, map}
 use Rattle.base.specs.Limits.{most_readings, most_levels}
 pub use Rattle.base.specs.Lists.{bump}
-use Rattle.twoway_checks.specs.Checks.{largest, levels, cells_refusal}
-use Rattle.base.specs.Refusals.{guarded}
-use Rattle.twoway_checks.specs.declared.TwoWayData.{TwoWayData}
-use Rattle.twoway_checks.specs.Cells.{cell_counts, numbers}
-use Rattle.twoway_checks.specs.Data.{refused_data, two_way_data, no_counts}
+use Rattle.twoway_checks.specs.Checks.{largest, levels}
+use Rattle.twoway_checks.specs.Cells.{numbers}
+use Rattle.twoway_checks.specs.Data.{no_counts}
 
 -- codes that can be counted: as many of A as of B, each below 6, and those of B below b
 pub record Coded (us vs : List ℕ) (b : ℕ) : Type 0 where
@@ -29,10 +27,6 @@ pub record Leveled (xs : List Float) (us vs : List ℕ) (a b : ℕ) : Type 0 whe
   pub low_b : 2 ≤ b
   pub high_a : a ≤ most_levels
   pub high_b : b ≤ most_levels
-
--- the design behind the checks of the cells alone
-unfoldable pub counted_data : ℕ → ℕ → List Float → List ℕ → List ℕ → TwoWayData
-counted_data a b xs us vs = guarded (cells_refusal a b (length xs) (cell_counts a b xs us vs)) refused_data (two_way_data a b xs us vs)
 
 -- the number of each reading's cell, where factor B has b levels
 unfoldable pub keys : ℕ → List ℕ → List ℕ → List ℕ

@@ -9,10 +9,9 @@ ghost use Rattle.twoway_checks.specs.Data.{checked_data};
 
 use base::Refusal;
 
-// The design of readings that passed the checks, or a refusal. The cell (i, j) stands at place i * levels_b + j of cell_n.
+// The design of readings that passed the checks. The cell (i, j) stands at place i * levels_b + j of cell_n.
 #[derive(Clone, Copy)]
 pub struct TwoWayData {
-    pub refusal: Refusal,
     pub levels_a: usize,
     pub levels_b: usize,
     pub n_total: usize,
@@ -26,18 +25,21 @@ pub fn check_two_way_data(
     factor_a: &[u32],
     factor_b: &[u32],
     lent: usize,
-) -> TwoWayData
+) -> Result<TwoWayData, Refusal>
     ensures { result ≡ checked_data values.now factor_a.now factor_b.now lent }
 {
-    let shape = refusals::shape_refusal(values, factor_a, factor_b, lent);
-    if shape.number != 0 {
-        return refusals::refused(shape);
-    }
+    refusals::shape_refusal(values, factor_a, factor_b, lent)?;
     let a = refusals::largest_of(factor_a) as u64 + 1;
     let b = refusals::largest_of(factor_b) as u64 + 1;
-    let levels = refusals::levels_refusal(a, b);
-    if levels.number != 0 {
-        return refusals::refused(levels);
-    }
-    refusals::counted(values, factor_a, factor_b, a as usize, b as usize)
+    refusals::levels_refusal(a, b)?;
+    let levels_a = a as usize;
+    let levels_b = b as usize;
+    let cell_n = tally::count_cells(factor_a, factor_b, levels_b);
+    refusals::cells_refusal(&cell_n, levels_a, levels_b, values.len())?;
+    Ok(TwoWayData {
+        levels_a,
+        levels_b,
+        n_total: values.len(),
+        cell_n,
+    })
 }

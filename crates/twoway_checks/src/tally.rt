@@ -16,11 +16,8 @@ pub fn count_cells(factor_a: &[u32], factor_b: &[u32], levels_b: usize) -> [usiz
     ensures { result ≡ tally (keys levels_b factor_a.now factor_b.now) }
 {
     let mut counts = [0usize; base::MOST_CELLS];
-    let mut i = 0;
-    while i < factor_a.len() {
-        let c = key(factor_a[i], factor_b[i], levels_b);
-        counts[c] = counts[c] + 1;
-        i += 1;
+    for (a, b) in factor_a.iter().zip(factor_b) {
+        counts[key(*a, *b, levels_b)] += 1;
     }
     counts
 }

@@ -1,7 +1,7 @@
 // The cells of a two-way design told in numbers: their means, the means of each factor's levels, and the squared distances within the cells.
 #![tactic(auto)]
 
-ghost use Rattle.std.specs.Prelude.{◌≡◌, ℕ, ◌+◌, ◌*◌, ◌≤◌, ◌<◌, length, take, leb};
+ghost use Rattle.std.specs.Prelude.{◌≡◌, ℕ, ◌+◌, ◌*◌, ◌≤◌, ◌<◌, List, Float, length, take, leb};
 ghost use mathlib.Core.List.{foldl};
 ghost use Rattle.base.specs.Limits.{most_cells, most_levels, most_readings};
 ghost use Rattle.base.specs.Inner.{Line};
@@ -9,6 +9,8 @@ ghost use Rattle.base.specs.Lists.{cut, total};
 ghost use Rattle.stats.specs.Sums.{add_by, sq_dist};
 ghost use Rattle.twoway_means.specs.Table.{cell_at, tally, tally_line, margins, cell_means, ss_error, no_table, table_fits, table_of, cell_table};
 ghost use Rattle.twoway_means.specs.Inner.{Laid, Fitting};
+
+use std::marker::Model;
 
 // A sum, and how many were added, counted in floats as the source counts.
 #[derive(Clone, Copy)]
@@ -26,147 +28,131 @@ pub struct CellTable {
     pub ss_error: f64,
 }
 
-// Whether the first k counts come to no more than n. No sum is formed that could wrap.
-fn counts_within(counts: &[usize], k: usize, n: usize) -> bool
-    requires { (k ≤ most_cells) × (k ≤ length counts.now) }
-    ensures { result ≡ leb (total (take k counts.now)) n }
+// Whether these counts come to no more than n. No sum is formed that could wrap.
+fn counts_within(counts: &[usize], n: usize) -> bool
+    ensures { result ≡ leb (total counts.now) n }
 {
     let mut left = n;
-    let mut c = 0;
-    while c < k {
-        if left < counts[c] {
+    for count in counts {
+        if left < *count {
             return false;
         }
-        left = left - counts[c];
-        c += 1;
+        left -= count;
     }
     true
-}
-
-// The readings of cell c.
-fn cell<'a>(
-    readings: &'a [f64],
-    counts: &[usize],
-    starts: &[usize; twoway_cells::STARTS],
-    k: usize,
-    c: usize,
-) -> &'a [f64]
-    requires { Laid k counts.now starts.now readings.now × (c < k) }
-    ensures { result.now ≡ cell_at (cut (take k counts.now) readings.now) c }
-{
-    &readings[starts[c]..starts[c + 1]]
 }
 
 fn tally_cell(t: Tally, cell: &[f64]) -> Tally
     ensures { result ≡ foldl tally t cell.now }
 {
-    let mut sum = t.sum;
-    let mut count = t.count;
-    let mut i = 0;
-    while i < cell.len() {
-        sum += cell[i];
-        count += 1.0;
-        i += 1;
-    }
-    Tally {
-        sum: sum,
-        count: count,
-    }
-}
-
-// n cells, the first of them s, each d further on.
-fn tally_line(
-    readings: &[f64],
-    counts: &[usize],
-    starts: &[usize; twoway_cells::STARTS],
-    k: usize,
-    s: usize,
-    d: usize,
-    n: usize,
-) -> Tally
-    requires { Laid k counts.now starts.now readings.now × Line k s d n }
-    ensures { result ≡ tally_line (cut (take k counts.now) readings.now) s d n }
-{
-    let mut t = Tally {
-        sum: 0.0,
-        count: 0.0,
-    };
-    for q in 0..n {
-        t = tally_cell(t, cell(readings, counts, starts, k, s + q * d));
-    }
-    t
-}
-
-// The mean of all readings at each of m levels: the levels' first cells lie e apart, and a level's n cells d apart.
-fn margins(
-    readings: &[f64],
-    counts: &[usize],
-    starts: &[usize; twoway_cells::STARTS],
-    k: usize,
-    m: usize,
-    e: usize,
-    d: usize,
-    n: usize,
-) -> [f64; base::MOST_LEVELS]
-    requires { Laid k counts.now starts.now readings.now × ((m ≤ most_levels) × ((m * e ≤ most_cells) × ((i : ℕ) → i < m → Line k (i * e) d n))) }
-    ensures { result ≡ margins (cut (take k counts.now) readings.now) m e d n }
-{
-    let mut out = [0.0; base::MOST_LEVELS];
-    for i in 0..m {
-        let t = tally_line(readings, counts, starts, k, i * e, d, n);
-        out[i] = float::canon(t.sum / t.count);
-    }
-    out
-}
-
-fn cell_means(
-    readings: &[f64],
-    counts: &[usize],
-    starts: &[usize; twoway_cells::STARTS],
-    k: usize,
-) -> [f64; base::MOST_CELLS]
-    requires { Laid k counts.now starts.now readings.now × (length readings.now ≤ most_readings) }
-    ensures { result ≡ cell_means (cut (take k counts.now) readings.now) k }
-{
-    let mut out = [0.0; base::MOST_CELLS];
-    for c in 0..k {
-        let here = cell(readings, counts, starts, k, c);
-        out[c] = float::canon(stats::sum(here) / (here.len() as f64));
-    }
-    out
+    cell.iter().fold(
+        t,
+        |t, y| Tally {
+            sum: t.sum + y,
+            count: t.count + 1.0,
+        },
+    )
 }
 
 // The squared distances of one cell's readings from its mean, added to t.
 fn add_squares(t: f64, cell: &[f64], mean: f64) -> f64
     ensures { result ≡ foldl (add_by (sq_dist mean)) t cell.now }
 {
-    let mut t = t;
-    let mut i = 0;
-    while i < cell.len() {
-        let d = cell[i] - mean;
-        t = t + d * d;
-        i += 1;
-    }
-    t
+    cell.iter().fold(t, |t, y| {
+        let d = y - mean;
+        t + d * d
+    })
 }
 
-fn ss_error(
-    readings: &[f64],
-    counts: &[usize],
-    starts: &[usize; twoway_cells::STARTS],
-    means: &[f64; base::MOST_CELLS],
-    k: usize,
-) -> f64
-    requires { Laid k counts.now starts.now readings.now }
-    ensures { result ≡ ss_error (cut (take k counts.now) readings.now) means.now k }
-{
-    let mut t = 0.0;
-    for c in 0..k {
-        t = add_squares(t, cell(readings, counts, starts, k, c), means[c]);
-    }
-    float::canon(t)
+// Cells whose readings lie one after another, as many in each as `counts` says. A clause sees the cells.
+#[derive(Drop)]
+struct Cells<'a> {
+    readings: &'a [f64],
+    counts: &'a [usize],
+    starts: [usize; twoway_cells::STARTS],
 }
 
+impl<'a> Model for Cells<'a> {
+    ghost Value = { List (List Float) };
+
+    ghost view = { λ c. cut c.counts.now c.readings.now };
+
+    ghost invariant = { λ c. Laid c.counts.now c.starts c.readings.now };
+}
+
+impl<'a> Cells<'a> {
+    fn new(readings: &'a [f64], counts: &'a [usize]) -> Cells<'a>
+        requires { (length counts.now ≤ most_cells) × (length readings.now ≤ most_readings) × (total counts.now ≤ length readings.now) }
+        ensures { result ≡ cut counts.now readings.now }
+    {
+        Cells {
+            readings,
+            counts,
+            starts: twoway_cells::starts_of(counts),
+        }
+    }
+
+    // The readings of cell c.
+    fn cell(&self, c: usize) -> &'a [f64]
+        requires { c < length self.now }
+        ensures { (result.now ≡ cell_at self.now c) × (length result.now ≤ most_readings) }
+    {
+        &self.readings[self.starts[c]..self.starts[c + 1]]
+    }
+
+    // n cells, the first of them s, each d further on.
+    fn line(&self, s: usize, d: usize, n: usize) -> Tally
+        requires { Line (length self.now) s d n }
+        ensures { result ≡ tally_line self.now s d n }
+    {
+        // A look at a field tells the proof that there are at most 36 cells.
+        let _ = &self.counts;
+        let mut t = Tally {
+            sum: 0.0,
+            count: 0.0,
+        };
+        for q in 0..n {
+            t = tally_cell(t, self.cell(s + q * d));
+        }
+        t
+    }
+
+    // The mean of all readings at each of m levels: the levels' first cells lie e apart, and a level's n cells d apart.
+    fn margins(&self, m: usize, e: usize, d: usize, n: usize) -> [f64; base::MOST_LEVELS]
+        requires { (m ≤ most_levels) × ((m * e ≤ most_cells) × ((i : ℕ) → i < m → Line (length self.now) (i * e) d n)) }
+        ensures { result ≡ margins self.now m e d n }
+    {
+        let mut out = [0.0; base::MOST_LEVELS];
+        for i in 0..m {
+            let t = self.line(i * e, d, n);
+            out[i] = float::canon(t.sum / t.count);
+        }
+        out
+    }
+
+    fn means(&self) -> [f64; base::MOST_CELLS]
+        ensures { result ≡ cell_means self.now (length self.now) }
+    {
+        let mut out = [0.0; base::MOST_CELLS];
+        for c in 0..self.counts.len() {
+            let here = self.cell(c);
+            out[c] = float::canon(stats::sum(here) / (here.len() as f64));
+        }
+        out
+    }
+
+    fn ss_error(&self, means: &[f64; base::MOST_CELLS]) -> f64
+        ensures { result ≡ ss_error self.now means.now (length self.now) }
+    {
+        let mut t = 0.0;
+        for c in 0..self.counts.len() {
+            t = add_squares(t, self.cell(c), means[c]);
+        }
+        float::canon(t)
+    }
+}
+
+#[tactic(auto, unfolding(crate::specs::Table::no_cells, crate::specs::Table::no_levels))]
 fn no_table() -> CellTable
     ensures { result ≡ no_table }
 {
@@ -179,41 +165,34 @@ fn no_table() -> CellTable
 }
 
 // At most 6 rows and 6 columns, at most 512 readings, a count for each cell, and enough readings for the counts.
+#[tactic(auto, unfolding(crate::specs::Table::table_fits))]
 fn table_fits(readings: &[f64], counts: &[usize], a: usize, b: usize) -> bool
     ensures { result ≡ table_fits counts.now readings.now a b }
 {
-    if base::MOST_LEVELS < a {
-        return false;
-    }
-    if base::MOST_LEVELS < b {
-        return false;
-    }
-    if base::MOST_READINGS < readings.len() {
-        return false;
-    }
-    if counts.len() < a * b {
-        return false;
-    }
-    counts_within(counts, a * b, readings.len())
+    a <= base::MOST_LEVELS
+        && b <= base::MOST_LEVELS
+        && readings.len() <= base::MOST_READINGS
+        && a * b <= counts.len()
+        && counts_within(&counts[..a * b], readings.len())
 }
 
 fn table(readings: &[f64], counts: &[usize], a: usize, b: usize) -> CellTable
     requires { Fitting counts.now readings.now a b }
     ensures { result ≡ table_of (cut (take (a * b) counts.now) readings.now) a b }
 {
-    let k = a * b;
-    let starts = twoway_cells::starts_of(&counts[..k]);
-    let means = cell_means(readings, counts, &starts, k);
+    let cells = Cells::new(readings, &counts[..a * b]);
+    let means = cells.means();
     CellTable {
         cell_means: means,
-        marginal_means_a: margins(readings, counts, &starts, k, a, b, 1, b),
-        marginal_means_b: margins(readings, counts, &starts, k, b, 1, b, a),
-        ss_error: ss_error(readings, counts, &starts, &means, k),
+        marginal_means_a: cells.margins(a, b, 1, b),
+        marginal_means_b: cells.margins(b, 1, b, a),
+        ss_error: cells.ss_error(&means),
     }
 }
 
 // The table of a rows and b columns of cells, whose readings lie one after another, by row, as many in each as `counts` says.
 // Nothing but zeros where it does not fit.
+#[tactic(auto, using(crate::proofs::Places::fitting), unfolding(crate::specs::Table::cell_table))]
 pub fn cell_table(readings: &[f64], counts: &[usize], a: usize, b: usize) -> CellTable
     ensures { result ≡ cell_table counts.now readings.now a b }
 {

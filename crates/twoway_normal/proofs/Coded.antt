@@ -122,3 +122,11 @@ cell_below a b u v = omega (arith, row_end (min u a) (a + 1) (b + 1) {len = (a +
 
 pub cells_few : (a b : ℕ) → a ≤ most_levels → b ≤ most_levels → cells_of a b ≤ most_counts
 cells_few a b h k = product_le (most_levels + 1) (most_levels + 1) {x = a + 1} {y = b + 1} (omega arith) (omega arith)
+
+-- so a cell's number is one of the places of the counts
+pub place_below : (a b u v : ℕ) → a ≤ most_levels → b ≤ most_levels → {c : ℕ} → c ≡ cell_of a b u v → c < most_counts
+place_below a b u v h k e = omega (arith, e, cell_below a b u v, cells_few a b h k)
+
+-- and the row of its cell ends within the rows of all cells
+pub row_within : (a b u v : ℕ) {c n : ℕ} → c ≡ cell_of a b u v → n ≡ cells_of a b * (a * b) → c * (a * b) + a * b ≤ n
+row_within a b u v {c} e f = row_end c (cells_of a b) (a * b) (omega (arith, e, cell_below a b u v)) (omega (arith, f))

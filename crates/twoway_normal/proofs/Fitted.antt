@@ -1,9 +1,9 @@
--- What is taken: each test in its order, and what all of them leave known.
-use Prim.Native.Nat.{ℕ, ◌<◌, ◌≤◌}
+-- What all the tests of what is taken leave known.
+use Prim.Native.Nat.{ℕ, ◌≤◌}
 use mathlib.Core.Path.{◌≡◌}
-use mathlib.Core.Bool.{true, false, ◌&&◌}
+use mathlib.Core.Bool.{true, ◌&&◌}
 use mathlib.Core.List.{List}
-use borrow.Author.Tests.{le-leb, lt-leb, leb-true, eqb-true}
+use borrow.Author.Tests.{leb-true, eqb-true}
 use lib.Dec.{leb, eqb}
 use lib.ListN.{length}
 use lib.Ieee.{Float}
@@ -11,36 +11,6 @@ use Rattle.base.specs.Limits.{most_levels, most_readings, scratch_places}
 use Rattle.base.proofs.Faults.{both}
 use Rattle.twoway_normal.specs.Inner.{Fitting}
 use Rattle.twoway_normal.specs.Shape.{factor_fits, fits}
-
-module _ (levels codes n : ℕ) where
-  pub factor_few : levels < 2 → false ≡ factor_fits levels codes n
-  unfolding factor_fits
-  factor_few h = rw (lt-leb 2 levels h)
-
-  pub factor_many : 2 ≤ levels → most_levels < levels → false ≡ factor_fits levels codes n
-  unfolding factor_fits
-  factor_many h k = rw (le-leb 2 levels h, lt-leb levels most_levels k)
-
-  pub factor_codes : 2 ≤ levels → levels ≤ most_levels → eqb codes n ≡ factor_fits levels codes n
-  unfolding factor_fits
-  factor_codes h k = rw (le-leb 2 levels h, le-leb levels most_levels k)
-
-module _ (n codesA codesB a b lent : ℕ) where
-  pub fits_a : factor_fits a codesA n ≡ false → false ≡ fits n codesA codesB a b lent
-  unfolding fits
-  fits_a p = rw p
-
-  pub fits_b : factor_fits a codesA n ≡ true → factor_fits b codesB n ≡ false → false ≡ fits n codesA codesB a b lent
-  unfolding fits
-  fits_b p q = rw (p, q)
-
-  pub fits_many : factor_fits a codesA n ≡ true → factor_fits b codesB n ≡ true → most_readings < n → false ≡ fits n codesA codesB a b lent
-  unfolding fits
-  fits_many p q h = rw (p, q, lt-leb n most_readings h)
-
-  pub fits_lent : factor_fits a codesA n ≡ true → factor_fits b codesB n ≡ true → n ≤ most_readings → leb scratch_places lent ≡ fits n codesA codesB a b lent
-  unfolding fits
-  fits_lent p q h = rw (p, q, le-leb n most_readings h)
 
 factor_known : (levels codes n : ℕ) → factor_fits levels codes n ≡ true → (2 ≤ levels) × (levels ≤ most_levels) × (codes ≡ n)
 unfolding factor_fits

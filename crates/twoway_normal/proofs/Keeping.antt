@@ -36,6 +36,12 @@ rows_room a b h k =
     let p = cells_most a b h k in
     (p, system_most (a * b) p, omega (arith, product_le most_counts most_cells {x = cells_of a b} {y = a * b} (cells_few a b h k) p))
 
+-- and the row of cell c ends within it
+pub cell_room : (a b c : ℕ) → a ≤ most_levels → b ≤ most_levels → c < cells_of a b → Room a b × (rows_from + (c * (a * b) + a * b) ≤ scratch_places)
+cell_room a b c h k l =
+    let r = rows_room a b h k in
+    (r, omega (arith, r, row_end c (cells_of a b) (a * b) {len = cells_of a b * (a * b)} l (omega arith)))
+
 -- a cell's call: x is its row, x₁ what it left in the system's part of w₀, x₂ in the row's part of w₁
 module _ (a b c n : ℕ) (room : Room a b) (inside : c < cells_of a b) (w₀ : List Float) (long : scratch_places ≤ length w₀) where
   pub passed_over : n ≡ 0 → CellAdded a b c n w₀ w₀

@@ -1,3 +1,4 @@
+pub mod Heads
 pub mod Sizes
 pub mod Lent
 pub mod Fitted

@@ -74,3 +74,9 @@ pub record CellAdded (a b c n : ℕ) (before after : List Float) : Type 0 where
 pub record Aside (a b : ℕ) (before after : List Float) : Type 0 where
   pub amid : part (a * b * (a * b + 1)) (rows_from - a * b * (a * b + 1)) after ≡ part (a * b * (a * b + 1)) (rows_from - a * b * (a * b + 1)) before
   pub behind : drop (rows_from + rows_places a b) after ≡ drop (rows_from + rows_places a b) before
+
+-- the lent memory before and after all cells with the counts ns were added
+pub record CellsAdded (a b : ℕ) (ns : List ℕ) (before after : List Float) : Type 0 where
+  pub system : part 0 (a * b * (a * b + 1)) after ≡ add_cells a b ns (part 0 (a * b * (a * b + 1)) before)
+  pub rows : Kept a b ns rows_from (cells_of a b) after
+  pub aside : Aside a b before after

@@ -3,6 +3,8 @@ ghost use Rattle.std.specs.Prelude.{◌≡◌, ◌+◌, ◌-◌, ◌≤◌, ◌<
 ghost use Rattle.base.specs.Limits.{most_cells, most_levels};
 ghost use Rattle.twoway_normal.specs.Coding.{effect_code, codes_from, products_of, products, design_row};
 
+use crate::levels::Levels;
+
 // A column for each cell that there may be, and the reading.
 const ROW: usize = base::MOST_CELLS + 1;
 
@@ -31,34 +33,36 @@ fn codes_from(x: &mut [f64], p: usize, levels: usize, u: usize)
 }
 
 // The products of one column of A and the columns of B.
-fn products_of(x: &mut [f64], a: usize, b: usize, ka: usize)
-    requires { (a ≤ most_levels) × (2 ≤ b) × (b ≤ most_levels) × (ka < a - 1) × (length x.old ≡ most_cells + 1) }
-    ensures { x.new ≡ products_of a b ka x.old }
+fn products_of(x: &mut [f64], levels: Levels, ka: usize)
+    requires { (ka < levels.a - 1) × (length x.old ≡ most_cells + 1) }
+    ensures { x.new ≡ products_of levels.a levels.b ka x.old }
 {
+    let Levels { a, b } = levels;
+    // By number: one row is read and written.
     for kb in 0..b - 1 {
         x[a + (b - 1) + (ka * (b - 1) + kb)] = x[1 + ka] * x[a + kb];
     }
 }
 
-fn products(x: &mut [f64], a: usize, b: usize)
-    requires { (2 ≤ a) × (a ≤ most_levels) × (2 ≤ b) × (b ≤ most_levels) × (length x.old ≡ most_cells + 1) }
-    ensures { x.new ≡ products a b x.old }
+fn products(x: &mut [f64], levels: Levels)
+    requires { length x.old ≡ most_cells + 1 }
+    ensures { x.new ≡ products levels.a levels.b x.old }
 {
-    for ka in 0..a - 1 {
-        products_of(x, a, b, ka);
+    for ka in 0..levels.a - 1 {
+        products_of(x, levels, ka);
     }
 }
 
 // The row of the codes u and v, and a value behind it.
-pub fn design_row(a: usize, b: usize, u: usize, v: usize, y: f64) -> [f64; ROW]
-    requires { (2 ≤ a) × (a ≤ most_levels) × (2 ≤ b) × (b ≤ most_levels) }
-    ensures { result ≡ design_row a b u v y }
+pub fn design_row(levels: Levels, u: usize, v: usize, y: f64) -> [f64; ROW]
+    ensures { result ≡ design_row levels.a levels.b u v y }
 {
+    let Levels { a, b } = levels;
     let mut x = [0.0; ROW];
     x[0] = 1.0;
     codes_from(&mut x, 1, a, u);
     codes_from(&mut x, a, b, v);
-    products(&mut x, a, b);
+    products(&mut x, levels);
     x[a * b] = y;
     x
 }

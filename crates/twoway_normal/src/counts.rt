@@ -1,37 +1,29 @@
 // How many readings each cell has. All codes beyond a factor's levels have the same columns: they count as one level more.
-ghost use Rattle.std.specs.Prelude.{◌≡◌, ◌≤◌, min, length};
-ghost use Rattle.base.specs.Limits.{most_levels, most_readings};
+ghost use Rattle.std.specs.Prelude.{◌≡◌, ◌≤◌, length};
+ghost use Rattle.base.specs.Limits.{most_readings};
 ghost use Rattle.twoway_normal.specs.Counted.{cell_of, counts_of};
+
+use crate::levels::Levels;
 
 // A level more for each factor.
 pub const MOST_COUNTS: usize = (base::MOST_LEVELS + 1) * (base::MOST_LEVELS + 1);
 
-// The code u, or the number of levels where it is beyond them.
-fn level_of(levels: usize, u: u32) -> usize
-    ensures { result ≡ min u levels }
-{
-    if levels < u as usize {
-        return levels;
-    }
-    u as usize
-}
-
 // The number of a reading's cell.
-pub fn cell_of(a: usize, b: usize, u: u32, v: u32) -> usize
-    requires { (a ≤ most_levels) × (b ≤ most_levels) }
-    ensures { result ≡ cell_of a b u v }
+pub fn cell_of(levels: Levels, u: u32, v: u32) -> usize
+    ensures { result ≡ cell_of levels.a levels.b u v }
 {
-    level_of(a, u) * (b + 1) + level_of(b, v)
+    let Levels { a, b } = levels;
+    (u as usize).min(a) * (b + 1) + (v as usize).min(b)
 }
 
-pub fn count_cells(factor_a: &[u32], factor_b: &[u32], a: usize, b: usize) -> [u32; MOST_COUNTS]
-    requires { (a ≤ most_levels) × (b ≤ most_levels) × (length factor_b.now ≡ length factor_a.now) × (length factor_a.now ≤ most_readings) }
-    ensures { result ≡ counts_of factor_a.now factor_b.now a b }
+// Not one function with the tally of twoway_checks: that one has fewer places and wider counts, and takes no code beyond the levels.
+pub fn count_cells(factor_a: &[u32], factor_b: &[u32], levels: Levels) -> [u32; MOST_COUNTS]
+    requires { (length factor_b.now ≡ length factor_a.now) × (length factor_a.now ≤ most_readings) }
+    ensures { result ≡ counts_of factor_a.now factor_b.now levels.a levels.b }
 {
     let mut counts = [0u32; MOST_COUNTS];
-    for i in 0..factor_a.len() {
-        let c = cell_of(a, b, factor_a[i], factor_b[i]);
-        counts[c] = counts[c] + 1;
+    for (u, v) in factor_a.iter().zip(factor_b) {
+        counts[cell_of(levels, *u, *v)] += 1;
     }
     counts
 }

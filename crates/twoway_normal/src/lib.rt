@@ -3,11 +3,14 @@
 
 mod codes;
 mod counts;
+mod levels;
 mod normal;
 mod shape;
 
 ghost use Rattle.std.specs.Prelude.{◌≡◌};
 ghost use Rattle.twoway_normal.specs.Equations.{normal_equations};
+
+pub use levels::Levels;
 
 // X'X and, behind each of its rows, that of X'y, in the first a * b * (a * b + 1) places of the lent memory. Where the rows of codes were kept meanwhile, +0.0 is left.
 // What does not fit: false, and the memory stays as it is.

@@ -1,14 +1,15 @@
 // The normal equations. X'X is taken from the counts of the cells, X'y reading by reading.
 ghost use Rattle.std.specs.Prelude.{◌≡◌, ◌+◌, ◌*◌, ◌≤◌, ◌<◌, length};
-ghost use Rattle.base.specs.Limits.{most_levels, scratch_places};
+ghost use Rattle.base.specs.Limits.{scratch_places};
 ghost use Rattle.base.specs.Lists.{part};
 ghost use Rattle.float.specs.Words.{◌⊗◌};
 ghost use Rattle.twoway_normal.specs.Counted.{cells_of, counts_of, most_counts};
 ghost use Rattle.twoway_normal.specs.Equations.{rows_from, laid_system};
-ghost use Rattle.twoway_normal.specs.Inner.{Fitting, CellAdded, Kept, Aside, add_row, add_products, add_cells, add_value, ValueSums, put_column};
+ghost use Rattle.twoway_normal.specs.Inner.{Fitting, CellAdded, CellsAdded, Kept, Aside, add_row, add_products, add_cells, add_value, ValueSums, put_column};
 
 use crate::codes::design_row;
 use crate::counts::{cell_of, count_cells};
+use crate::levels::Levels;
 
 // Where the rows of codes of the cells are kept: behind the system.
 const ROWS: usize = base::MOST_CELLS * (base::MOST_CELLS + 1);
@@ -20,8 +21,8 @@ fn add_row(x: &[f64], n: f64, w: usize, j: usize, m: &mut [f64])
 {
     let f = n * x[j];
     let p = j * w;
-    for k in 0..w {
-        m[p + k] += f * x[k];
+    for (k, code) in x[..w].iter().enumerate() {
+        m[p + k] += f * code;
     }
 }
 
@@ -35,27 +36,27 @@ fn add_products(x: &[f64], n: f64, p: usize, w: usize, m: &mut [f64])
 }
 
 // The cell c has n readings: its products are added, and its row of codes is kept. A cell without readings is passed over.
-fn add_cell(a: usize, b: usize, c: usize, n: u32, work: &mut [f64])
-    requires { (2 ≤ a) × (a ≤ most_levels) × (2 ≤ b) × (b ≤ most_levels) × (c < cells_of a b) × (scratch_places ≤ length work.old) }
-    ensures { CellAdded a b c n work.old work.new }
+fn add_cell(levels: Levels, c: usize, n: u32, work: &mut [f64])
+    requires { (c < cells_of levels.a levels.b) × (scratch_places ≤ length work.old) }
+    ensures { CellAdded levels.a levels.b c n work.old work.new }
 {
     if n == 0 {
         return;
     }
-    let p = a * b;
-    let x = design_row(a, b, c / (b + 1), c % (b + 1), 0.0);
+    let p = levels.a * levels.b;
+    let x = design_row(levels, c / (levels.b + 1), c % (levels.b + 1), 0.0);
     add_products(&x, n as f64, p, p + 1, &mut work[0..p * (p + 1)]);
     let q = ROWS + c * p;
     lent::put(&mut work[q..q + p], &x[0..p]);
 }
 
 // All cells.
-fn add_cells(a: usize, b: usize, counts: &[u32], work: &mut [f64])
-    requires { (2 ≤ a) × (a ≤ most_levels) × (2 ≤ b) × (b ≤ most_levels) × (length counts.now ≡ most_counts) × (scratch_places ≤ length work.old) }
-    ensures { (part 0 (a * b * (a * b + 1)) work.new ≡ add_cells a b counts.now (part 0 (a * b * (a * b + 1)) work.old)) × Kept a b counts.now rows_from (cells_of a b) work.new × Aside a b work.old work.new }
+fn add_cells(levels: Levels, counts: &[u32], work: &mut [f64])
+    requires { (length counts.now ≡ most_counts) × (scratch_places ≤ length work.old) }
+    ensures { CellsAdded levels.a levels.b counts.now work.old work.new }
 {
-    for c in 0..(a + 1) * (b + 1) {
-        add_cell(a, b, c, counts[c], work);
+    for c in 0..(levels.a + 1) * (levels.b + 1) {
+        add_cell(levels, c, counts[c], work);
     }
 }
 
@@ -71,8 +72,8 @@ fn add_value(rows: &[f64], q: usize, p: usize, y: f64, sums: &mut [f64])
     requires { (q + p ≤ length rows.now) × (p ≤ length sums.old) }
     ensures { sums.new ≡ add_value q p rows.now y sums.old }
 {
-    for j in 0..p {
-        sums[j] += product(rows[q + j], y);
+    for (j, code) in rows[q..q + p].iter().enumerate() {
+        sums[j] += product(*code, y);
     }
 }
 
@@ -81,18 +82,17 @@ fn value_sums(
     values: &[f64],
     factor_a: &[u32],
     factor_b: &[u32],
-    a: usize,
-    b: usize,
+    levels: Levels,
     rows: &[f64],
 ) -> [f64; base::MOST_CELLS]
-    requires { Fitting values.now factor_a.now factor_b.now a b × (length rows.now ≡ cells_of a b * (a * b)) × Kept a b (counts_of factor_a.now factor_b.now a b) 0 (cells_of a b) rows.now }
-    ensures { ValueSums values.now factor_a.now factor_b.now a b result }
+    requires { Fitting values.now factor_a.now factor_b.now levels.a levels.b × (length rows.now ≡ cells_of levels.a levels.b * (levels.a * levels.b)) × Kept levels.a levels.b (counts_of factor_a.now factor_b.now levels.a levels.b) 0 (cells_of levels.a levels.b) rows.now }
+    ensures { ValueSums values.now factor_a.now factor_b.now levels.a levels.b result }
 {
-    let p = a * b;
+    let p = levels.a * levels.b;
     let mut sums = [0.0; base::MOST_CELLS];
-    for i in 0..values.len() {
-        let c = cell_of(a, b, factor_a[i], factor_b[i]);
-        add_value(rows, c * p, p, values[i], &mut sums);
+    for ((y, u), v) in values.iter().zip(factor_a).zip(factor_b) {
+        let c = cell_of(levels, *u, *v);
+        add_value(rows, c * p, p, *y, &mut sums);
     }
     sums
 }
@@ -102,8 +102,8 @@ fn put_column(sums: &[f64], p: usize, m: &mut [f64])
     requires { (p ≤ length sums.now) × (p * (p + 1) ≤ length m.old) }
     ensures { m.new ≡ put_column p sums.now m.old }
 {
-    for j in 0..p {
-        m[j * (p + 1) + p] = float::canon(sums[j]);
+    for (j, sum) in sums[..p].iter().enumerate() {
+        m[j * (p + 1) + p] = float::canon(*sum);
     }
 }
 
@@ -119,13 +119,14 @@ pub fn normal_system(
     requires { Fitting values.now factor_a.now factor_b.now a b × (scratch_places ≤ length work.old) }
     ensures { work.new ≡ laid_system values.now factor_a.now factor_b.now a b work.old }
 {
-    let p = a * b;
+    let levels = Levels { a, b };
+    let p = levels.a * levels.b;
     let z = p * (p + 1);
     let end = ROWS + (a + 1) * (b + 1) * p;
     lent::wipe(&mut work[0..z]);
-    let counts = count_cells(factor_a, factor_b, a, b);
-    add_cells(a, b, &counts, work);
-    let sums = value_sums(values, factor_a, factor_b, a, b, &work[ROWS..end]);
+    let counts = count_cells(factor_a, factor_b, levels);
+    add_cells(levels, &counts, work);
+    let sums = value_sums(values, factor_a, factor_b, levels, &work[ROWS..end]);
     put_column(&sums, p, &mut work[0..z]);
     lent::wipe(&mut work[ROWS..end]);
 }

@@ -1,4 +1,5 @@
 pub mod Sizes
+pub mod Rows
 pub mod Halves
 pub mod Chains
 pub mod Guards

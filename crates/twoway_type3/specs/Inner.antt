@@ -1,10 +1,13 @@
 -- What the code keeps between its steps. No public contract cites these words.
-use Rattle.std.specs.Prelude.{ℕ, ◌*◌, ◌/◌, ◌%◌, ◌+◌, ◌-◌, List, Float, set}
+use Rattle.std.specs.Prelude.{ℕ, ◌*◌, ◌/◌, ◌%◌, ◌+◌, ◌-◌, ◌≡◌, List, Float, set}
 use Rattle.base.specs.Limits.{most_levels, most_cells}
 use Rattle.base.specs.Loop.{loop}
 use Rattle.matrix_linear.specs.Inverse.{zero_at}
 use Rattle.matrix_linear.specs.Rows.{at}
+use Rattle.base.specs.Lists.{part}
+use Rattle.twoway_type3.specs.declared.wald.Solved.{Solved}
 use Rattle.twoway_type3.specs.Matrices.{half_of}
+use Rattle.twoway_type3.specs.Answer.{beta, inverse, solved_skips}
 
 -- place q of a left half that is laid out for the inverse (`half_of`)
 abbrev pub half_at : ℕ → ℕ → ℕ → List Float → ℕ → Float
@@ -33,3 +36,9 @@ block_from = inverse_from + most_cells * (2 * most_cells)
 -- the most columns of an effect: those of the interaction
 abbrev pub most_columns : ℕ
 most_columns = (most_levels - 1) * (most_levels - 1)
+
+-- the lent memory before and after its system was solved, and what was skipped
+pub record IsSolved (a b : ℕ) (before after : List Float) (skips : Solved) : Type 0 where
+  pub coefficients : part 0 (a * b * (a * b + 1)) after ≡ beta (part 0 (a * b * (a * b + 1)) before) a b
+  pub inverted : part inverse_from (a * b * (2 * (a * b))) after ≡ inverse (part 0 (a * b * (a * b + 1)) before) a b
+  pub skipped : skips ≡ solved_skips (part 0 (a * b * (a * b + 1)) before) a b

@@ -10,12 +10,8 @@ fn half_row(work: &mut [f64], p: usize, q: usize, n: usize)
     requires { (q + n ≤ p) × (p + 2 * n ≤ length work.old) × (length work.old ≤ scratch_places) }
     ensures { work.new ≡ half_row n q p work.old }
 {
-    for j in 0..n {
-        work[p + j] = work[q + j];
-    }
-    for j in 0..n {
-        work[p + n + j] = 0.0;
-    }
+    work.copy_within(q..q + n, p);
+    work[p + n..p + 2 * n].fill(0.0);
 }
 
 // The block of n rows of n places, from `from` on and w apart, goes to the rows from `to` on, which lie behind it.

@@ -8,6 +8,7 @@ ghost use Rattle.std.specs.Prelude.{◌≡◌};
 ghost use Rattle.twoway_type3.specs.Answer.{type3_ss};
 
 use results::Effects;
+use twoway_normal::Levels;
 
 // The sums of squares of a by b levels. The first 6,400 places of the lent memory are used, and left as +0.0.
 // What does not fit gives +0.0 for each, and the memory stays as it is.
@@ -22,7 +23,8 @@ pub fn type3_ss(
     ensures { (work.new, result) ≡ type3_ss values.now factor_a.now factor_b.now a b work.old }
 {
     if twoway_normal::normal_equations(values, factor_a, factor_b, a, b, work) {
-        let e = wald::all_effects(a, b, &mut work[0..base::SCRATCH_PLACES]);
+        let levels = Levels { a, b };
+        let e = wald::all_effects(levels, &mut work[0..base::SCRATCH_PLACES]);
         lent::wipe(work);
         return e;
     }

@@ -1,13 +1,14 @@
 // The sums of squares of the effects, from the coefficients and the inverse of X'X.
 ghost use Rattle.std.specs.Prelude.{◌≡◌, ◌+◌, ◌*◌, ◌≤◌, ◌<◌, length, take};
-ghost use Rattle.base.specs.Limits.{most_cells, most_levels, scratch_places};
+ghost use Rattle.base.specs.Limits.{most_cells, scratch_places};
 ghost use Rattle.base.specs.Lists.{part};
-ghost use Rattle.twoway_type3.specs.Inner.{inverse_from, block_from, most_columns};
+ghost use Rattle.twoway_type3.specs.Inner.{IsSolved, inverse_from, block_from, most_columns};
 ghost use Rattle.twoway_type3.specs.Wald.{wald_row, wald_sum, wald_ss};
-ghost use Rattle.twoway_type3.specs.Answer.{beta, inverse, solved_skips, effects_from};
+ghost use Rattle.twoway_type3.specs.Answer.{effects_from};
 
 use crate::half::left_half;
 use results::{Effects, Skips};
+use twoway_normal::Levels;
 
 // Where the inverse of X'X lies, behind the system; and where an effect's block lies, behind both.
 const INVERSE: usize = base::MOST_CELLS * (base::MOST_CELLS + 1);
@@ -35,6 +36,7 @@ fn wald_row(beta: &[f64], cov: &[f64], p: usize, s: usize, n: usize, i: usize, s
 {
     let f = beta[(s + i) * (p + 1) + p];
     let mut t = ss;
+    // By number: the coefficients lie p + 1 places apart.
     for j in 0..n {
         t += f * cov[i * (2 * n) + n + j] * beta[(s + j) * (p + 1) + p];
     }
@@ -67,11 +69,11 @@ fn wald_ss(work: &mut [f64], p: usize, s: usize, n: usize) -> Effect
 }
 
 // The system in the first places is solved: the coefficients come to its last column, and behind it the inverse of X'X, on the right of its rows.
-fn solve(a: usize, b: usize, work: &mut [f64]) -> Solved
-    requires { (2 ≤ a) × (a ≤ most_levels) × (2 ≤ b) × (b ≤ most_levels) × (length work.old ≡ scratch_places) }
-    ensures { (part 0 (a * b * (a * b + 1)) work.new ≡ beta (part 0 (a * b * (a * b + 1)) work.old) a b) × (part inverse_from (a * b * (2 * (a * b))) work.new ≡ inverse (part 0 (a * b * (a * b + 1)) work.old) a b) × (result ≡ solved_skips (part 0 (a * b * (a * b + 1)) work.old) a b) }
+fn solve(levels: Levels, work: &mut [f64]) -> Solved
+    requires { length work.old ≡ scratch_places }
+    ensures { IsSolved levels.a levels.b work.old work.new result }
 {
-    let p = a * b;
+    let p = levels.a * levels.b;
     let z = p * (p + 1);
     let end = INVERSE + p * (2 * p);
     left_half(work, INVERSE, p, 0, p + 1);
@@ -84,11 +86,12 @@ fn solve(a: usize, b: usize, work: &mut [f64]) -> Solved
 }
 
 // The effects, from the system in the first places.
-pub fn all_effects(a: usize, b: usize, work: &mut [f64]) -> Effects
-    requires { (2 ≤ a) × (a ≤ most_levels) × (2 ≤ b) × (b ≤ most_levels) × (length work.old ≡ scratch_places) }
-    ensures { result ≡ effects_from (part 0 (a * b * (a * b + 1)) work.old) a b }
+pub fn all_effects(levels: Levels, work: &mut [f64]) -> Effects
+    requires { length work.old ≡ scratch_places }
+    ensures { result ≡ effects_from (part 0 (levels.a * levels.b * (levels.a * levels.b + 1)) work.old) levels.a levels.b }
 {
-    let solved = solve(a, b, work);
+    let solved = solve(levels, work);
+    let Levels { a, b } = levels;
     let p = a * b;
     let of_a = wald_ss(work, p, 1, a - 1);
     let of_b = wald_ss(work, p, a, b - 1);

@@ -11,12 +11,12 @@ use Rattle.twoway_balanced.proofs.effects_of.Goals as goal
 pub mean_margins-means_a-requires : goal.mean_margins-means_a-requires
 mean_margins-means_a-requires c =
     let few = few_cells _ _ c.requires.rows c.requires.columns in
-    (omega (arith, few, c.requires.all), (c.requires.rows, (c.requires.columns, (few, λ i h. rw c.requires.all (row_line _ _ i h)))))
+    (c.requires.rows, c.requires.columns, few, λ i h. rw c.requires.all (row_line _ _ i h))
 
 pub mean_margins-means_b-requires : goal.mean_margins-means_b-requires
 mean_margins-means_b-requires c =
     let few = few_cells _ _ c.requires.rows c.requires.columns in
-    (omega (arith, few, c.requires.all), (c.requires.columns, (c.requires.rows, (omega (arith, c.requires.columns, mul-one c.args.b), λ j h. rw c.requires.all (column_line _ _ j h)))))
+    (c.requires.columns, c.requires.rows, omega (arith, c.requires.columns, mul-one c.args.b), λ j h. rw c.requires.all (column_line _ _ j h))
 
 pub overflow_mul-grand_mean : goal.overflow_mul-grand_mean
 overflow_mul-grand_mean c =
@@ -68,7 +68,7 @@ int_to_float-r c = small_count _ (omega (arith, c.requires.most))
 pub ss_ab-ss_ab-requires : goal.ss_ab-ss_ab-requires
 ss_ab-ss_ab-requires c =
     let cells : c.args.a * c.args.b ≤ 36 = few_cells _ _ c.requires.rows c.requires.columns in
-    (c.requires.rows, (c.requires.columns, (omega (arith, c.requires.all), omega (arith, c.requires.all, cells))))
+    (c.requires.rows, c.requires.columns, omega (arith, c.requires.all))
 
 pub returns : goal.returns
 returns c =

@@ -14,22 +14,22 @@ loop-q-init c = (search rules, refl)
 
 pub overflow_mul-t : goal.overflow_mul-t
 overflow_mul-t c =
-    let within : (c.args.s + c.loop-q.q * c.args.d < length c.args.means.now) = c.requires.1 c.loop-q.q c.loop-q-test.true in
-    omega (arith, within, c.requires.0)
+    let within : (c.args.s + c.loop-q.q * c.args.d < length c.args.means.now) = c.requires c.loop-q.q c.loop-q-test.true in
+    omega (arith, within, c.well_formed)
 
 pub overflow_add-t : goal.overflow_add-t
 overflow_add-t c =
-    let within : (c.args.s + c.loop-q.q * c.args.d < length c.args.means.now) = c.requires.1 c.loop-q.q c.loop-q-test.true in
-    omega (arith, within, c.requires.0)
+    let within : (c.args.s + c.loop-q.q * c.args.d < length c.args.means.now) = c.requires c.loop-q.q c.loop-q-test.true in
+    omega (arith, within, c.well_formed)
 
 pub offset_bounds-means-s : goal.offset_bounds-means-s
 offset_bounds-means-s c =
-    let within : (c.args.s + c.loop-q.q * c.args.d < length c.args.means.now) = c.requires.1 c.loop-q.q c.loop-q-test.true in
-    omega (arith, within, c.requires.0)
+    let within : (c.args.s + c.loop-q.q * c.args.d < length c.args.means.now) = c.requires c.loop-q.q c.loop-q-test.true in
+    omega (arith, within, c.well_formed)
 
 pub bounds-means-s : goal.bounds-means-s
 bounds-means-s c =
-    let within : (c.args.s + c.loop-q.q * c.args.d < length c.args.means.now) = c.requires.1 c.loop-q.q c.loop-q-test.true in
+    let within : (c.args.s + c.loop-q.q * c.args.d < length c.args.means.now) = c.requires c.loop-q.q c.loop-q-test.true in
     within
 
 pub loop-q-preserved : goal.loop-q-preserved

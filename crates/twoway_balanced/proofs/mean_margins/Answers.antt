@@ -14,16 +14,16 @@ unfolding mean_margins
 loop-i-init c = (search rules, (refl, refl))
 
 pub overflow_mul-i : goal.overflow_mul-i
-overflow_mul-i c = omega (arith, row_end _ _ _ c.loop-i-test.true c.requires.1.1.1.0)
+overflow_mul-i c = omega (arith, row_end _ _ _ c.loop-i-test.true c.requires.2)
 
 pub mean_line-requires : goal.mean_line-requires
-mean_line-requires c = (c.requires.0, c.requires.1.1.1.1 c.loop-i.i c.loop-i-test.true)
+mean_line-requires c = c.requires.3 c.loop-i.i c.loop-i-test.true
 
 pub int_to_float-out : goal.int_to_float-out
-int_to_float-out c = small_count _ (omega (arith, c.requires.1.1.0))
+int_to_float-out c = small_count _ (omega (arith, c.requires.1))
 
 pub bounds-out-i : goal.bounds-out-i
-bounds-out-i c = omega (arith, c.requires.1.0)
+bounds-out-i c = omega (arith, c.requires.0)
 
 pub loop-i-preserved : goal.loop-i-preserved
 unfolding mean_margins

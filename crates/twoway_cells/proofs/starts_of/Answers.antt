@@ -16,20 +16,20 @@ returns-then-counts-gt-MOST_CELLS c = too_many _ c.if-counts-gt-MOST_CELLS.true
 
 pub loop-c-init : goal.loop-c-init
 unfolding total no_starts
-loop-c-init c = (omega arith, refl, omega arith, refl, sums_start c.args.counts.now c.if-counts-gt-MOST_CELLS.false)
+loop-c-init c = (refl, omega arith, refl, sums_start c.args.counts.now c.if-counts-gt-MOST_CELLS.false)
 
-pub returns-then-at-counts : goal.returns-then-at-counts
+pub returns-then-at-n : goal.returns-then-at-n
 unfolding no_starts
-returns-then-at-counts c =
+returns-then-at-n c =
     let next : (total (take (c.loop-c.c + 1) c.args.counts.now) ≡ total (take c.loop-c.c c.args.counts.now) + get_or c.args.counts.now c.loop-c.c 0) = total_next c.args.counts.now c.loop-c.c c.loop-c-test.true in
     too_long c.args.counts.now c.if-counts-gt-MOST_CELLS.false (omega (arith, next, total_split c.args.counts.now (c.loop-c.c + 1)))
 
 pub loop-c-preserved : goal.loop-c-preserved
 loop-c-preserved c =
     let next : (total (take (c.loop-c.c + 1) c.args.counts.now) ≡ total (take c.loop-c.c c.args.counts.now) + get_or c.args.counts.now c.loop-c.c 0) = total_next c.args.counts.now c.loop-c.c c.loop-c-test.true in
-    (omega arith, simp length-set c.loop-c.invariant.1, omega arith, omega (arith, next), sums_turn c.args.counts.now c.if-counts-gt-MOST_CELLS.false c.loop-c.starts c.loop-c.at c.loop-c.c c.loop-c.invariant.4 c.loop-c-test.true)
+    (simp length-set c.loop-c.invariant.0, omega arith, omega (arith, next), sums_turn c.args.counts.now c.if-counts-gt-MOST_CELLS.false c.loop-c.starts c.loop-c.at c.loop-c.c c.loop-c.invariant.3 c.loop-c-test.true)
 
 pub returns : goal.returns
 returns c =
-    sums_end c.args.counts.now c.if-counts-gt-MOST_CELLS.false c.loop-c.starts c.loop-c.at c.loop-c.c c.loop-c.invariant.4 c.loop-c-test.false
+    sums_end c.args.counts.now c.if-counts-gt-MOST_CELLS.false c.loop-c.starts c.loop-c.at c.loop-c.c c.loop-c.invariant.3 (omega (arith, c.loop-c-test.false, c.loop-c.auto.c-end))
     ∙ told c.args.counts.now c.if-counts-gt-MOST_CELLS.false (omega (arith, total_whole c.args.counts.now c.loop-c.c c.loop-c-test.false))

@@ -7,6 +7,3 @@ use Rattle.twoway_normal.proofs.codes.codes_from.Given as goal
 
 abbrev pub invariant-loop-k : goal.invariant-loop-k
 invariant-loop-k l = (l.k-end ≡ l.levels - 1) × (length l.x ≡ 37) × (loop l.k (l.levels - 1) (code_at l.p l.levels l.u) l.x ≡ codes_from l.p l.levels l.u l.initial.x)
-
-abbrev pub decreases-loop-k : goal.decreases-loop-k
-decreases-loop-k l = l.k-end - l.k

@@ -7,13 +7,13 @@ use Rattle.twoway_normal.proofs.Built.{row_built}
 use Rattle.twoway_normal.proofs.codes.design_row.Goals as goal
 
 pub overflow_mul-x : goal.overflow_mul-x
-overflow_mul-x c = omega (arith, product_le 6 6 {x = c.args.a} {y = c.args.b} (omega arith) (omega arith))
+overflow_mul-x c = omega (arith, product_le 6 6 {x = c.args.levels.a} {y = c.args.levels.b} (omega arith) (omega arith))
 
 pub offset_bounds-x-a : goal.offset_bounds-x-a
-offset_bounds-x-a c = omega (arith, product_le 6 6 {x = c.args.a} {y = c.args.b} (omega arith) (omega arith))
+offset_bounds-x-a c = omega (arith, product_le 6 6 {x = c.args.levels.a} {y = c.args.levels.b} (omega arith) (omega arith))
 
 pub bounds-x-a : goal.bounds-x-a
-bounds-x-a c = omega (arith, product_le 6 6 {x = c.args.a} {y = c.args.b} (omega arith) (omega arith))
+bounds-x-a c = omega (arith, product_le 6 6 {x = c.args.levels.a} {y = c.args.levels.b} (omega arith) (omega arith))
 
 pub returns : goal.returns
 unfolding zeros

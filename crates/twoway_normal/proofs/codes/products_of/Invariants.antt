@@ -7,6 +7,3 @@ use Rattle.twoway_normal.proofs.codes.products_of.Given as goal
 
 abbrev pub invariant-loop-kb : goal.invariant-loop-kb
 invariant-loop-kb l = (l.kb-end ≡ l.b - 1) × (length l.x ≡ 37) × (loop l.kb (l.b - 1) (product_at l.a l.b l.ka) l.x ≡ products_of l.a l.b l.ka l.initial.x)
-
-abbrev pub decreases-loop-kb : goal.decreases-loop-kb
-decreases-loop-kb l = l.kb-end - l.kb

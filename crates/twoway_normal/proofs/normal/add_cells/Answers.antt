@@ -12,7 +12,7 @@ use Rattle.twoway_normal.proofs.normal.add_cells.Goals as goal
 
 pub overflow_mul-c-end : goal.overflow_mul-c-end
 overflow_mul-c-end c =
-    let few : cells_of c.args.a c.args.b ≤ most_counts = cells_few c.args.a c.args.b c.requires.1 c.requires.3 in
+    let few : cells_of c.args.levels.a c.args.levels.b ≤ most_counts = cells_few c.args.levels.a c.args.levels.b c.args.levels.in_range.1 c.args.levels.in_range.3 in
     omega (arith, few)
 
 pub loop-c-init : goal.loop-c-init
@@ -21,30 +21,30 @@ loop-c-init c = (refl, refl, refl, (λ d l. absurd (not-suc-le-zero l)), aside_n
 
 pub offset_bounds-counts-c : goal.offset_bounds-counts-c
 offset_bounds-counts-c c =
-    let few : cells_of c.args.a c.args.b ≤ most_counts = cells_few c.args.a c.args.b c.requires.1 c.requires.3 in
+    let few : cells_of c.args.levels.a c.args.levels.b ≤ most_counts = cells_few c.args.levels.a c.args.levels.b c.args.levels.in_range.1 c.args.levels.in_range.3 in
     omega (arith, few)
 
 pub bounds-counts-c : goal.bounds-counts-c
 bounds-counts-c c =
-    let few : cells_of c.args.a c.args.b ≤ most_counts = cells_few c.args.a c.args.b c.requires.1 c.requires.3 in
+    let few : cells_of c.args.levels.a c.args.levels.b ≤ most_counts = cells_few c.args.levels.a c.args.levels.b c.args.levels.in_range.1 c.args.levels.in_range.3 in
     omega (arith, few)
 
 pub add_cell-requires : goal.add_cell-requires
-add_cell-requires c = (c.requires.0, c.requires.1, c.requires.2, c.requires.3, omega arith, omega arith)
+add_cell-requires c = (omega arith, omega arith)
 
 pub overflow_step-c : goal.overflow_step-c
 overflow_step-c c =
-    let few : cells_of c.args.a c.args.b ≤ most_counts = cells_few c.args.a c.args.b c.requires.1 c.requires.3 in
+    let few : cells_of c.args.levels.a c.args.levels.b ≤ most_counts = cells_few c.args.levels.a c.args.levels.b c.args.levels.in_range.1 c.args.levels.in_range.3 in
     omega (arith, few)
 
 pub loop-c-preserved : goal.loop-c-preserved
-loop-c-preserved c = let room = rows_room c.args.a c.args.b c.requires.1 c.requires.3 in (
+loop-c-preserved c = let room = rows_room c.args.levels.a c.args.levels.b c.args.levels.in_range.1 c.args.levels.in_range.3 in (
   c.loop-c.invariant.0,
   omega arith,
   step _ _ _ _ _ _ c.loop-c.invariant.2 (omega arith) c.add_cell.ensures.system,
-  kept_next c.args.a c.args.b c.loop-c.c c.args.counts.now c.loop-c.work _ room c.loop-c.invariant.3 c.add_cell.ensures,
-  aside_then c.args.a c.args.b c.args.work.now c.loop-c.work _ c.loop-c.invariant.4 (aside_cell _ _ _ _ _ _ room (omega arith) c.add_cell.ensures),
+  kept_next c.args.levels.a c.args.levels.b c.loop-c.c c.args.counts.now c.loop-c.work _ room c.loop-c.invariant.3 c.add_cell.ensures,
+  aside_then c.args.levels.a c.args.levels.b c.args.work.now c.loop-c.work _ c.loop-c.invariant.4 (aside_cell _ _ _ _ _ _ room (omega arith) c.add_cell.ensures),
 )
 
 pub returns : goal.returns
-returns c = (ends _ _ _ _ _ c.loop-c.invariant.2 (omega arith), (λ d h. c.loop-c.invariant.3 d (omega arith)), c.loop-c.invariant.4)
+returns c = record { system = ends _ _ _ _ _ c.loop-c.invariant.2 (omega arith); rows = λ d h. c.loop-c.invariant.3 d (omega arith); aside = c.loop-c.invariant.4 }

@@ -1,4 +1,3 @@
-use Prim.Native.Nat.{◌-◌}
 use mathlib.Core.Path.{◌≡◌}
 use lib.ListN.{length}
 use Rattle.base.specs.Loop.{loop}
@@ -7,6 +6,3 @@ use Rattle.twoway_normal.proofs.normal.add_row.Given as goal
 
 abbrev pub invariant-loop-k : goal.invariant-loop-k
 invariant-loop-k l = (length l.m ≡ length l.initial.m) × (loop l.k l.w (add_at l.w l.n l.x l.j) l.m ≡ add_row l.w l.n l.x l.j l.initial.m)
-
-abbrev pub decreases-loop-k : goal.decreases-loop-k
-decreases-loop-k l = l.w - l.k

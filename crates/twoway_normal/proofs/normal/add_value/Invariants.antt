@@ -1,4 +1,3 @@
-use Prim.Native.Nat.{◌-◌}
 use mathlib.Core.Path.{◌≡◌}
 use lib.ListN.{length}
 use Rattle.base.specs.Loop.{loop}
@@ -7,6 +6,3 @@ use Rattle.twoway_normal.proofs.normal.add_value.Given as goal
 
 abbrev pub invariant-loop-j : goal.invariant-loop-j
 invariant-loop-j l = (length l.sums ≡ length l.initial.sums) × (loop l.j l.p (value_at l.q l.rows l.y) l.sums ≡ add_value l.q l.p l.rows l.y l.initial.sums)
-
-abbrev pub decreases-loop-j : goal.decreases-loop-j
-decreases-loop-j l = l.p - l.j

@@ -1,71 +1,61 @@
 -- Each reading finds the row of its cell, which is kept since the cell has a reading.
-use Prim.Native.Nat.{ℕ, ◌+◌, ◌*◌, ◌≤◌}
-use mathlib.Core.Path.{◌≡◌, refl, ap, ◌∙◌}
+use mathlib.Core.Path.{refl, ap, ◌∙◌}
 use mathlib.Core.List.{List}
 use native.Mathlib.Omega.{arith}
-use lib.ListN.{length, get_or}
+use lib.ListN.{get_or}
 use lib.Ieee.{Float, nan}
-use Rattle.base.proofs.Bounds.{row_end}
+use mathlib.Core.Logic.{inl, inr}
+use Rattle.std.proofs.Common.{rules, sym, None, length, ◌≤◌, ◌≡◌}
+use lib.ListN.{length-append}
+use Rattle.std.proofs.lemmas.List.{nil_from_length}
+use Rattle.std.proofs.lemmas.Slice.Zip.{either_empty_from_Zip}
 use Rattle.base.proofs.Loops.{step, ends}
+use Rattle.base.proofs.Rests.{first_left, over_at}
 use Rattle.lent.specs.Wiping.{zeros}
 use Rattle.matrix_places.specs.Places.{at}
-use Rattle.twoway_normal.specs.Counted.{cell_of, cells_of}
-use Rattle.twoway_normal.specs.Inner.{add_value}
-use Rattle.twoway_normal.proofs.Coded.{cell_below}
+use Rattle.twoway_normal.specs.Counted.{cell_of}
+use Rattle.twoway_normal.proofs.Coded.{row_within}
 use Rattle.twoway_normal.proofs.Readings.{add_reading, values_walk}
 use Rattle.twoway_normal.proofs.Sizes.{cells_most}
 use Rattle.twoway_normal.proofs.normal.value_sums.Goals as goal
 
 pub overflow_mul-p : goal.overflow_mul-p
-overflow_mul-p c = omega (arith, cells_most c.args.a c.args.b c.requires.0.most_a c.requires.0.most_b)
+overflow_mul-p c = omega (arith, cells_most c.args.levels.a c.args.levels.b c.requires.0.most_a c.requires.0.most_b)
 
-pub loop-i-init : goal.loop-i-init
+pub loop-y-init : goal.loop-y-init
 unfolding zeros
-loop-i-init c = (refl, refl, refl, refl)
-
-pub cell_of-c-requires : goal.cell_of-c-requires
-cell_of-c-requires c = (c.requires.0.most_a, c.requires.0.most_b)
+loop-y-init c = (refl, refl, search rules, search rules, search rules, refl)
 
 pub overflow_mul-c : goal.overflow_mul-c
-overflow_mul-c c =
-    let row_ends : (c.cell_of-c.result * (c.args.a * c.args.b) + c.args.a * c.args.b ≤ length c.args.rows.now) =
-    let u = get_or c.args.factor_a.now c.loop-i.i 0 in
-    let v = get_or c.args.factor_b.now c.loop-i.i 0 in
-    let e : c.cell_of-c.result ≡ cell_of c.args.a c.args.b u v = c.cell_of-c.ensures in
-    row_end c.cell_of-c.result (cells_of c.args.a c.args.b) (c.args.a * c.args.b) (omega (arith, e, cell_below c.args.a c.args.b u v)) (omega arith)
-    in
-    omega (arith, row_ends)
-
-pub offset_bounds-values-i : goal.offset_bounds-values-i
-offset_bounds-values-i c =
-    let row_ends : (c.cell_of-c.result * (c.args.a * c.args.b) + c.args.a * c.args.b ≤ length c.args.rows.now) =
-    let u = get_or c.args.factor_a.now c.loop-i.i 0 in
-    let v = get_or c.args.factor_b.now c.loop-i.i 0 in
-    let e : c.cell_of-c.result ≡ cell_of c.args.a c.args.b u v = c.cell_of-c.ensures in
-    row_end c.cell_of-c.result (cells_of c.args.a c.args.b) (c.args.a * c.args.b) (omega (arith, e, cell_below c.args.a c.args.b u v)) (omega arith)
-    in
-    omega (arith, row_ends)
+overflow_mul-c c = omega (arith, row_within _ _ _ _ c.cell_of-c.ensures c.requires.1)
 
 pub add_value-requires : goal.add_value-requires
 add_value-requires c =
-    let row_ends : (c.cell_of-c.result * (c.args.a * c.args.b) + c.args.a * c.args.b ≤ length c.args.rows.now) =
-    let u = get_or c.args.factor_a.now c.loop-i.i 0 in
-    let v = get_or c.args.factor_b.now c.loop-i.i 0 in
-    let e : c.cell_of-c.result ≡ cell_of c.args.a c.args.b u v = c.cell_of-c.ensures in
-    row_end c.cell_of-c.result (cells_of c.args.a c.args.b) (c.args.a * c.args.b) (omega (arith, e, cell_below c.args.a c.args.b u v)) (omega arith)
-    in
-    omega (arith, row_ends, cells_most c.args.a c.args.b c.requires.0.most_a c.requires.0.most_b)
+    omega (arith, row_within _ _ _ _ c.cell_of-c.ensures c.requires.1, cells_most c.args.levels.a c.args.levels.b c.requires.0.most_a c.requires.0.most_b)
 
-pub loop-i-preserved : goal.loop-i-preserved
+pub loop-y-preserved : goal.loop-y-preserved
 unfolding add_reading
-loop-i-preserved c = let p = c.args.a * c.args.b in
-    let y = get_or c.args.values.now c.loop-i.i nan in
-    let e = c.add_value.ensures ∙ ap (λ (d : ℕ). add_value (d * p) p c.args.rows.now y c.loop-i.sums) c.cell_of-c.ensures in
-    (c.loop-i.invariant.0, c.loop-i.invariant.1, omega arith, step _ _ _ _ _ _ c.loop-i.invariant.3 (omega arith) e)
+loop-y-preserved c =
+    let i = length c.loop-y.yielded in
+    let y = first_left c.args.values.now i nan (sym c.loop-y.invariant.2 ∙ c.in-Some.ensures.steps.0.0) in
+    let u = first_left c.args.factor_a.now i 0 (sym c.loop-y.invariant.3 ∙ c.in-Some.ensures.steps.0.1) in
+    let v = first_left c.args.factor_b.now i 0 (sym c.loop-y.invariant.4 ∙ c.in-Some.ensures.steps.1) in
+    let w : c.cell_of-c.result ≡ cell_of c.args.levels.a c.args.levels.b (get_or c.args.factor_a.now i 0) (get_or c.args.factor_b.now i 0) = c.cell_of-c.ensures ∙ rw (u.1, v.1) in
+    rw (length-append c.loop-y.yielded _) (c.loop-y.invariant.0, omega arith, y.2, u.2, v.2, step _ _ _ _ _ _ c.loop-y.invariant.5 y.0 (c.add_value.ensures ∙ rw (y.1, w)))
 
 pub returns : goal.returns
-returns c = let e = ends _ _ _ _ _ c.loop-i.invariant.3 (omega arith) in
-    let m = cells_most c.args.a c.args.b c.requires.0.most_a c.requires.0.most_b in
+returns c =
+    let i = length c.loop-y.yielded in
+    let done : length c.args.values.now ≤ i =
+    elim c.in-None.ensures.steps [
+      | inl z ↦ elim (either_empty_from_Zip c.loop-y.y-iterator.a z.0 None refl z.1) [
+        | inl e ↦ over_at c.args.values.now i (sym c.loop-y.invariant.2 ∙ e)
+        | inr e ↦ omega (arith, over_at c.args.factor_a.now i (sym c.loop-y.invariant.3 ∙ e), c.requires.0.codes_a)
+      ]
+      | inr n ↦ omega (arith, over_at c.args.factor_b.now i (sym c.loop-y.invariant.4 ∙ nil_from_length _ n.1.0), c.requires.0.codes_b)
+    ] in
+    let e = ends _ _ _ _ _ c.loop-y.invariant.5 done in
+    let m = cells_most c.args.levels.a c.args.levels.b c.requires.0.most_a c.requires.0.most_b in
     λ j h.
     ap (λ (sums : List Float). at sums j) e
-    ∙ values_walk c.args.values.now c.args.factor_a.now c.args.factor_b.now c.args.a c.args.b c.requires.0 c.args.rows.now c.requires.2 m j h
+    ∙ values_walk c.args.values.now c.args.factor_a.now c.args.factor_b.now c.args.levels.a c.args.levels.b c.requires.0 c.args.rows.now c.requires.2 m j h

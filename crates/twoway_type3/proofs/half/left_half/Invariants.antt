@@ -1,4 +1,3 @@
-use Prim.Native.Nat.{◌-◌}
 use mathlib.Core.Path.{◌≡◌}
 use lib.ListN.{length}
 use Rattle.base.specs.Loop.{loop}
@@ -7,6 +6,3 @@ use Rattle.twoway_type3.proofs.half.left_half.Given as goal
 
 abbrev pub invariant-loop-i : goal.invariant-loop-i
 invariant-loop-i l = (length l.work ≡ length l.initial.work) × (loop l.i l.n (half_step l.to l.n l.from l.w) l.work ≡ loop 0 l.n (half_step l.to l.n l.from l.w) l.initial.work)
-
-abbrev pub decreases-loop-i : goal.decreases-loop-i
-decreases-loop-i l = l.n - l.i

@@ -1,4 +1,3 @@
-use Prim.Native.Nat.{◌-◌}
 use mathlib.Core.Path.{◌≡◌}
 use Rattle.twoway_type3.specs.Wald.{wald_at, wald_row}
 use Rattle.base.specs.Loop.{loop}
@@ -6,6 +5,3 @@ use Rattle.twoway_type3.proofs.wald.wald_row.Given as goal
 
 abbrev pub invariant-loop-j : goal.invariant-loop-j
 invariant-loop-j l = loop l.j l.n (wald_at l.p l.s l.n l.beta l.cov l.i) l.t ≡ wald_row l.p l.s l.n l.beta l.cov l.i l.ss
-
-abbrev pub decreases-loop-j : goal.decreases-loop-j
-decreases-loop-j l = l.n - l.j

@@ -1,4 +1,3 @@
-use Prim.Native.Nat.{◌-◌}
 use mathlib.Core.Path.{◌≡◌}
 use Rattle.twoway_type3.specs.Wald.{wald_row, wald_sum}
 use Rattle.base.specs.Loop.{loop}
@@ -6,6 +5,3 @@ use Rattle.twoway_type3.proofs.wald.wald_sum.Given as goal
 
 abbrev pub invariant-loop-i : goal.invariant-loop-i
 invariant-loop-i l = loop l.i l.n (wald_row l.p l.s l.n l.beta l.cov) l.ss ≡ wald_sum l.p l.s l.n l.beta l.cov
-
-abbrev pub decreases-loop-i : goal.decreases-loop-i
-decreases-loop-i l = l.n - l.i
