@@ -1,18 +1,14 @@
--- The design that the checks answer with, from the counts that the code made.
+-- The counts that the code made are those of the cells, and so is what is asked of them.
 use mathlib.Core.Path.{◌≡◌, ap, ◌∙◌}
 use mathlib.Core.List.{List}
 use Prim.Native.Nat.{ℕ, ◌*◌}
 use lib.Ieee.{Float}
 use lib.ListN.{length, take}
-use Rattle.base.specs.declared.Refusal.{Refusal}
 use Rattle.base.specs.Lists.{over}
-use Rattle.std.specs.Prelude.{Result, Ok}
-use Rattle.base.proofs.Order.{was_passed}
-use Rattle.twoway_checks.specs.declared.TwoWayData.{TwoWayData}
 use Rattle.twoway_checks.specs.Cells.{cell_counts}
-use Rattle.twoway_checks.specs.Checks.{levels, cells_refusal, two_way_refusal}
+use Rattle.twoway_checks.specs.Checks.{levels, cells_refusal}
 use Rattle.twoway_checks.specs.Inner.{Leveled, keys, tally}
-use Rattle.twoway_checks.specs.Data.{no_counts, checked_data}
+use Rattle.twoway_checks.specs.Data.{no_counts}
 use Rattle.twoway_checks.proofs.Doors.{tally_counts, first_counts}
 
 -- the counts that the code made are those of the cells
@@ -22,9 +18,3 @@ module _ (xs : List Float) (us vs : List ℕ) (k : Leveled xs us vs (levels us) 
 
   pub cells_checked : cells_refusal (levels us) (levels vs) (length xs) (take (levels us * levels vs) ns) ≡ cells_refusal (levels us) (levels vs) (length xs) (cell_counts (levels us) (levels vs) xs us vs)
   cells_checked = ap (cells_refusal (levels us) (levels vs) (length xs)) (ap (take (levels us * levels vs)) counts_are ∙ first_counts xs us vs (levels us) (levels vs) k)
-
--- what a caller learns from the design d that it was handed
-module _ (xs : List Float) (us vs : List ℕ) (lent : ℕ) {x : Result TwoWayData Refusal} (told : x ≡ checked_data xs us vs lent) where
-  pub passed_told : {d : TwoWayData} → x ≡ Ok d → (two_way_refusal xs us vs lent).number ≡ 0
-  unfolding checked_data
-  passed_told e = was_passed _ _ told e
