@@ -8,7 +8,7 @@ use native.Mathlib.Omega.{arith}
 use borrow.Author.Tests.{le-leb, lt-leb, leb-false, eqb-false}
 use lib.Dec.{leb}
 use lib.Ieee.{Float, is_nan}
-use lib.ListN.{length, get_or, take, get_or-eq_default}
+use lib.ListN.{length, get_or, take}
 use Rattle.base.specs.declared.Refusal.{Refusal}
 use Rattle.base.specs.Lists.{total}
 use Rattle.base.specs.Refusals.{refuse, none, verdict, ◌or_else◌}
@@ -23,14 +23,6 @@ use Rattle.oneway_rows.proofs.Counted.{Sound, unread, length_sizes, size_at, sou
 use Rattle.sheet.specs.Calls.{Call, Replace, Append, Remove, no_place, new_nan, full, last_two, judge, refusal_of, target}
 
 module _ (k : ℕ) (rows : List Row) (g p : ℕ) where
-  pub no_group : k ≤ length rows → k ≤ g → refuse 14 g p ≡ no_place g p (sizes_in k rows)
-  no_group l h =
-      let past : length (sizes_in k rows) ≤ g = rw (length_sizes k rows l) h in
-      rw (get_or-eq_default (sizes_in k rows) 0 past, le-leb 0 p (omega arith))
-
-  pub no_place_lem : g < k → (get_or rows g unread).size ≤ p → refuse 14 g p ≡ no_place g p (sizes_in k rows)
-  no_place_lem h f = rw (size_at k rows g h, le-leb _ p f)
-
   pub has_place : g < k → p < (get_or rows g unread).size → none ≡ no_place g p (sizes_in k rows)
   has_place h f = rw (size_at k rows g h, lt-leb _ p f)
 

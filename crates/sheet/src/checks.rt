@@ -1,4 +1,5 @@
 // The checks before an edit, from the rows alone, and where a group's readings lie.
+// They take the rows and their number as `rows_refusal` does, and not the sheet, whose 4 KB of places they do not look at.
 ghost use Rattle.std.specs.Prelude.{◌≡◌, ◌≤◌, ◌<◌, ◌+◌, length, take};
 ghost use Rattle.base.specs.Limits.{most_groups};
 ghost use Rattle.std.specs.List.{sum_by};

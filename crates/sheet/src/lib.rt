@@ -21,7 +21,7 @@ pub struct Sheet {
     pub groups: usize,
 }
 
-// What a call says, and the sheet after it: where it is refused, the sheet as it was.
+// What a call says, and the sheet after it: where it is refused, the sheet as it was. Document 01 fixes this record, with the refusal beside the sheet.
 #[derive(Clone, Copy)]
 pub struct Edit {
     pub refusal: Refusal,
