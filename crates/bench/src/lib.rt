@@ -16,12 +16,9 @@ fn put_floats(out: &mut [u8], figures: &[f64])
     requires { length figures.now * 8 ≤ length out.old }
     ensures { out.new ≡ over (run float_bytes figures.now) out.old }
 {
-    let mut i = 0;
-    while i < figures.len() {
-        let at = i * 8;
-        let b = set::le_bytes(float::bits_of(figures[i]));
-        text::put(out, at, &b);
-        i += 1;
+    let mut at = 0;
+    for x in figures {
+        at = text::put(out, at, &set::le_bytes(float::bits_of(*x)));
     }
 }
 
@@ -33,20 +30,21 @@ fn bench(set: &[u8], out: &mut [u8], kind: AnovaKind) -> u32
         return 12;
     }
     let a = set::set_anova(set, kind);
-    let refusal = a.refusal;
-    if refusal.number != 0 {
-        return refusal.number;
+    match a.refusal.check() {
+        Ok(()) => {
+            let figures = [
+                a.statistic,
+                a.df_between,
+                a.df_within,
+                a.ss_between,
+                a.ss_within,
+                a.ss_total,
+            ];
+            put_floats(out, &figures);
+            0
+        }
+        Err(refusal) => refusal.number,
     }
-    let figures = [
-        a.statistic,
-        a.df_between,
-        a.df_within,
-        a.ss_between,
-        a.ss_within,
-        a.ss_total,
-    ];
-    put_floats(out, &figures);
-    0
 }
 
 // Fisher's analysis: F, df between, df within, SS between, within and total, in the first 48 bytes of out.

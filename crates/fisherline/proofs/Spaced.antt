@@ -48,6 +48,10 @@ module _ {A : Type 0} (word : A → List ℕ) (xs : List A) where
           run_step (λ (x : A). 32 ∷ word x) xs d i h out a e o r,
         )
 
+  -- the number x is the one at i
+  pub item_put : (i : ℕ) (x : A) (out : List ℕ) (a : ℕ) {o : List ℕ} {r : ℕ} → x ≡ get_or xs i x → (o, r) ≡ put_of out a (word x) → (o, r) ≡ put_of out a (word (get_or xs i x))
+  item_put i x out a e p = p ∙ ap (λ (y : A). put_of out a (word y)) e
+
   pub spaced_ends : (i : ℕ) (out start : List ℕ) (a at : ℕ) → length xs ≤ i → a + length (spaced (drop i xs)) ≡ at + length (spaced xs) → sets out a (spaced (drop i xs)) ≡ sets start at (spaced xs)
       → (out, a) ≡ puts start at (spaced xs)
   unfolding puts

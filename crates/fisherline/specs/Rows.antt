@@ -16,6 +16,10 @@ spaced_hex x = 32 ∷ hex_bits x
 abbrev pub spaced_decimal : ℕ → List ℕ
 spaced_decimal n = 32 ∷ numeral_of n
 
+-- a name, numbers as their words behind a space each, and a newline
+abbrev pub line_of : {A : Type 0} → (A → List ℕ) → List ℕ → List A → List ℕ
+line_of word name xs = name ++ (run (λ x. 32 ∷ word x) xs ++ (10 ∷ []))
+
 abbrev pub floats_line : List ℕ → List Float → List ℕ
 floats_line name xs = name ++ (run spaced_hex xs ++ (10 ∷ []))
 

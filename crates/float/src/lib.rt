@@ -1,4 +1,5 @@
-// Words for single floats that the source takes from its standard library.
+// Words for single floats that the source takes from its standard library. Document 01, "Forms that must change", wants helpers of our own for
+// `abs`, `is_finite`, `min`, `max`, `clamp` and `powi`: they say which NaN, which zero and which rounding comes back.
 #![tactic(auto)]
 
 ghost use Rattle.std.specs.Prelude.{◌≡◌};
@@ -7,6 +8,7 @@ ghost use Rattle.std.specs.Float.Ieee.{of_bits, to_bits};
 ghost use Rattle.float.specs.Singles.{abs_of, is_finite, least_of, greatest_of, clamp_of, power_of};
 
 // x itself. A NaN leaves with the bits 7FF8000000000000, which no contract can say: the model has one NaN.
+#[tactic(auto, using(crate::proofs::Tested::invalid, crate::proofs::Tested::is_tested))]
 pub fn canon(x: f64) -> f64
     ensures { result ≡ x }
 {
@@ -20,8 +22,8 @@ pub fn canon_places(m: &mut [f64], k: usize)
     if m.len() < k {
         return;
     }
-    for j in 0..k {
-        m[j] = canon(m[j]);
+    for x in &mut m[..k] {
+        *x = canon(*x);
     }
 }
 
@@ -36,6 +38,7 @@ pub fn abs(x: f64) -> f64
 }
 
 // `x.is_finite()`: neither infinite nor a NaN.
+#[tactic(auto, using(crate::proofs::Operands::below_infinity))]
 pub fn is_finite(x: f64) -> bool
     ensures { result ≡ is_finite x }
 {
@@ -43,6 +46,7 @@ pub fn is_finite(x: f64) -> bool
 }
 
 // `a.min(b)`. Only b can leave as a NaN, and only where both are one: what a comparison picked is none.
+#[tactic(auto, using(crate::proofs::Nans::ne_self), unfolding(crate::specs::Singles::least_of))]
 pub fn least(a: f64, b: f64) -> f64
     ensures { result ≡ least_of a b }
 {
@@ -53,6 +57,7 @@ pub fn least(a: f64, b: f64) -> f64
 }
 
 // `a.max(b)`, in the same way.
+#[tactic(auto, using(crate::proofs::Nans::ne_self), unfolding(crate::specs::Singles::greatest_of))]
 pub fn greatest(a: f64, b: f64) -> f64
     ensures { result ≡ greatest_of a b }
 {
@@ -63,6 +68,7 @@ pub fn greatest(a: f64, b: f64) -> f64
 }
 
 // `x.clamp(low, high)`, for any two bounds. Only x can leave as a NaN.
+#[tactic(auto, unfolding(crate::specs::Singles::clamp_of))]
 pub fn clamp(x: f64, low: f64, high: f64) -> f64
     ensures { result ≡ clamp_of x low high }
 {
@@ -98,6 +104,7 @@ pub fn power(x: f64, p: u32) -> f64
 }
 
 // The bits of x: 7FF8000000000000 of a NaN, whatever bits it has.
+#[tactic(auto, using(crate::proofs::Tested::nan_bits_are, crate::proofs::Tested::has_bits))]
 pub fn bits_of(x: f64) -> u64
     ensures { result ≡ to_bits binary64 x }
 {
@@ -108,7 +115,7 @@ pub fn bits_of(x: f64) -> u64
 }
 
 // The float of these bits. A NaN's pattern is tested first, since `from_bits` is not defined there.
-#[tactic(auto, using(crate::proofs::Patterns::pattern_invalid))]
+#[tactic(auto, using(crate::proofs::Patterns::pattern_invalid, crate::proofs::Patterns::pattern_number))]
 pub fn float_of(n: u64) -> f64
     ensures { result ≡ of_bits binary64 n }
 {

@@ -1,9 +1,9 @@
--- Numbers laid into memory: too few places, or enough.
-use Prim.Native.Nat.{◌<◌, ◌≤◌}
+-- Numbers laid into memory that has places enough.
+use Prim.Native.Nat.{◌≤◌}
 use mathlib.Core.Path.{◌≡◌, ◌∙◌}
 use mathlib.Core.List.{List}
 use native.Mathlib.Omega.{arith}
-use borrow.Author.Tests.{lt-ltb, le-ltb}
+use borrow.Author.Tests.{le-ltb}
 use lib.Ieee.{Float}
 use lib.ListN.{length}
 use Rattle.base.specs.Lists.{over}
@@ -11,10 +11,6 @@ use Rattle.base.proofs.Runs.{over_all}
 use Rattle.lent.specs.Laying.{laid}
 
 module _ (numbers out : List Float) where
-  pub no_room : length out < length numbers → out ≡ laid numbers out
-  unfolding laid
-  no_room h = rw (lt-ltb (length out) (length numbers) h)
-
   pub laid_room : length numbers ≤ length out → laid numbers out ≡ over numbers out
   unfolding laid
   laid_room h = rw (le-ltb (length out) (length numbers) h)

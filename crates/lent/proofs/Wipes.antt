@@ -1,32 +1,24 @@
--- Memory that is wiped place by place; and that nothing is left of what a call did in the places that are wiped.
+-- Memory that is wiped; and that nothing is left of what a call did in the places that are wiped.
 use mathlib.Core.Path.{◌≡◌, refl, sym, ap, ◌∙◌}
 use mathlib.Core.Bool.{Bool, true, false}
-use mathlib.Core.List.{List, [], ◌∷◌, ◌++◌, append-nil}
-use Prim.Native.Nat.{ℕ, zero, suc, ◌+◌, ◌<◌, ◌≤◌, min}
-use native.Mathlib.Nat.{not-suc-le-zero, le_of_suc-le-suc}
-use native.Mathlib.Numerals.{add-one}
+use mathlib.Core.List.{List, ◌++◌, append-nil}
+use Prim.Native.Nat.{ℕ, ◌<◌, ◌≤◌, min}
 use native.Mathlib.Omega.{arith}
 use borrow.Author.Tests.{leb-true, leb-false}
 use lib.Dec.{leb}
-use lib.ListN.{length, set, drop, length-append, length-drop, drop_of_length-le}
+use lib.ListN.{length, drop, length-append, length-drop, drop_of_length-le}
 use lib.Seq.{drop_at}
 use lib.Ieee.{Float}
 use Rattle.base.specs.Limits.{scratch_places}
 use Rattle.float.specs.Words.{plus_zero}
 use Rattle.lent.specs.Wiping.{zeros, wiped}
 
-fill_suc : (n : ℕ) (d : List Float) → n < length d → set (zeros n ++ drop n d) n plus_zero ≡ zeros (suc n) ++ drop (suc n) d
-unfolding zeros
-fill_suc n [] l = absurd (not-suc-le-zero l)
-fill_suc zero (x ∷ d) l = refl
-fill_suc (suc n) (x ∷ d) l = ap (λ (t : List Float). plus_zero ∷ t) (fill_suc n d (le_of_suc-le-suc l))
-
-pub wipe_more : (n : ℕ) (s d : List Float) → n < length d → s ≡ zeros n ++ drop n d → set s n plus_zero ≡ zeros (n + 1) ++ drop (n + 1) d
-wipe_more n s d l e = rw (add-one, e) (fill_suc n d l)
-
-pub wipe_done : (i : ℕ) (s d : List Float) → i ≡ min scratch_places (length d) → s ≡ zeros i ++ drop i d → s ≡ wiped d
+-- the first places, as many as there are up to 6,400, hold +0.0
+pub wiped_by : (k : ℕ) (front d : List Float) → k ≡ min (length d) scratch_places → front ≡ zeros k → front ++ drop k d ≡ wiped d
 unfolding wiped
-wipe_done i s d h e = e ∙ ap (λ (k : ℕ). zeros k ++ drop k d) h ∙ ap (λ (t : List Float). zeros (min scratch_places (length d)) ++ t) (behind (leb (length d) scratch_places) refl)
+wiped_by k front d h e =
+    let m : k ≡ min scratch_places (length d) = omega (arith, h) in
+    rw (e, m) (ap (λ (t : List Float). zeros (min scratch_places (length d)) ++ t) (behind (leb (length d) scratch_places) refl))
   where
     behind : (t : Bool) → leb (length d) scratch_places ≡ t → drop (min scratch_places (length d)) d ≡ drop scratch_places d
     behind true q =

@@ -13,10 +13,10 @@ use Rattle.base.proofs.Loops.{step}
 use Rattle.base.proofs.Walks.{walks}
 use Rattle.base.proofs.Bounds.{then_of, else_of}
 use Rattle.float.specs.Words.{plus_zero}
-use Rattle.matrix_places.specs.Places.{at, over_row}
+use Rattle.matrix_places.specs.Places.{at}
 use Rattle.matrix_linear.specs.Rows.{swap_at, swap_rows, pivot_row, pivoted, skips, clear_below}
 use Rattle.matrix_linear.specs.Skips.{pivot_skips, one_more}
-use Rattle.matrix_linear.specs.Inner.{counted}
+use Rattle.matrix_linear.specs.Inner.{counted, column_by}
 use Rattle.matrix_linear.specs.System.{cleared, column}
 use Rattle.matrix_linear.specs.Inverse.{clear_other, clear_others, scaled, reduced, full_column}
 use Rattle.matrix_linear.specs.Determinant.{turned, pivotless, swept, det_try, det_column}
@@ -31,23 +31,22 @@ module _ (n w col : ℕ) (m : List Float) {p : List Float} (e : p ≡ pivoted n 
   moved : {b : Bool} → skips p (col * w + col) ≡ b → skips (pivoted n w col m) (col * w + col) ≡ b
   moved h = ap (λ (s : List Float). skips s (col * w + col)) (sym e) ∙ h
 
-  -- elimination: the pivot is too small, and the memory stays as the swap left it
+  -- the pivot is too small, and the memory stays as the swap left it; or `clear` goes on
+  module _ (clear : ℕ → ℕ → ℕ → List Float → List Float) where
+    pub left_alone : skips p (col * w + col) ≡ true → p ≡ column_by clear n w col m
+    left_alone h = then_of (skips (pivoted n w col m) (col * w + col)) _ _ (moved h) e
+
+    pub gone_on : {x : List Float} → skips p (col * w + col) ≡ false → x ≡ clear n w col p → x ≡ column_by clear n w col m
+    gone_on h q = else_of (skips (pivoted n w col m) (col * w + col)) _ _ (moved h) (q ∙ ap (clear n w col) e)
+
+  -- so in elimination, and in inversion
   pub column_skipped : skips p (col * w + col) ≡ true → p ≡ column n w col m
   unfolding column cleared
-  column_skipped h = then_of (skips (pivoted n w col m) (col * w + col)) _ _ (moved h) e
+  column_skipped = left_alone clear_below
 
-  pub column_cleared : {x : List Float} → skips p (col * w + col) ≡ false → x ≡ clear_below n w col p → x ≡ column n w col m
-  unfolding column cleared
-  column_cleared h q = else_of (skips (pivoted n w col m) (col * w + col)) _ _ (moved h) (q ∙ ap (clear_below n w col) e)
-
-  -- inversion, in the same way
   pub full_skipped : skips p (col * w + col) ≡ true → p ≡ full_column n w col m
   unfolding full_column reduced
-  full_skipped h = then_of (skips (pivoted n w col m) (col * w + col)) _ _ (moved h) e
-
-  pub full_cleared : {x y : List Float} → skips p (col * w + col) ≡ false → x ≡ over_row (col * w) (at p (col * w + col)) w p → y ≡ clear_others n w col x → y ≡ full_column n w col m
-  unfolding full_column reduced scaled
-  full_cleared h q r = else_of (skips (pivoted n w col m) (col * w + col)) _ _ (moved h) (r ∙ ap (clear_others n w col) (q ∙ ap (λ (s : List Float). over_row (col * w) (at s (col * w + col)) w s) e))
+  full_skipped = left_alone (λ n w col m. clear_others n w col (scaled w col m))
 
   -- and the count of either, j where it was k: one more where the column was skipped; x is the memory after the column
   pub counts : (by : ℕ → List Float → List Float) {x : List Float} {t : Bool} (j k : ℕ) → skips p (col * w + col) ≡ t → x ≡ by col m → j ≡ one_more t k → j ≤ k + 1 → ((x, j) ≡ counted by n w col (m, k)) × (j ≤ k + 1)

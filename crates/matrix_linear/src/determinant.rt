@@ -7,6 +7,7 @@ use super::place::abs_at;
 use super::rows::swap_rows;
 
 // The sign, turned where two different rows change places.
+#[tactic(auto, unfolding(crate::specs::Determinant::turned))]
 pub fn turned(a: usize, b: usize, s: f64) -> f64
     ensures { result ≡ turned a b s }
 {
@@ -17,6 +18,7 @@ pub fn turned(a: usize, b: usize, s: f64) -> f64
 }
 
 // One column: the sign after it, +0.0 where there is no pivot or was none before.
+#[tactic(auto, using(crate::proofs::Columns::det_stopped, crate::proofs::Columns::det_pivotless, crate::proofs::Columns::det_swept, base::proofs::Bounds::row_end))]
 pub fn det_column(m: &mut [f64], n: usize, col: usize, s: f64) -> f64
     requires { (col < n) × (n * n ≤ length m.old) }
     ensures { (m.new, result) ≡ det_column n col (m.old, s) }
@@ -34,6 +36,7 @@ pub fn det_column(m: &mut [f64], n: usize, col: usize, s: f64) -> f64
 }
 
 // All columns: the sign, or 0.
+#[tactic(auto, using(base::proofs::Loops::step, base::proofs::Loops::ends), unfolding(crate::specs::Determinant::det_columns))]
 pub fn det_columns(m: &mut [f64], n: usize) -> f64
     requires { n * n ≤ length m.old }
     ensures { (m.new, result) ≡ det_columns n m.old }
@@ -46,6 +49,7 @@ pub fn det_columns(m: &mut [f64], n: usize) -> f64
 }
 
 // The product of s and the diagonal.
+#[tactic(auto, using(base::proofs::Loops::step, base::proofs::Loops::ends), unfolding(crate::specs::Determinant::diagonal_product))]
 pub fn diagonal_product(m: &[f64], n: usize, s: f64) -> f64
     requires { n * n ≤ length m.now }
     ensures { result ≡ diagonal_product n m.now s }
@@ -58,6 +62,7 @@ pub fn diagonal_product(m: &[f64], n: usize, s: f64) -> f64
 }
 
 // The determinant of three rows or more.
+#[tactic(auto, unfolding(crate::specs::Determinant::det_end))]
 pub fn det_long(m: &mut [f64], n: usize) -> f64
     requires { n * n ≤ length m.old }
     ensures { (m.new, result) ≡ det_end n (det_columns n m.old) }
@@ -70,6 +75,7 @@ pub fn det_long(m: &mut [f64], n: usize) -> f64
 }
 
 // The determinant of two rows.
+#[tactic(auto, unfolding(crate::specs::Determinant::two_by_two))]
 pub fn two_by_two(m: &[f64]) -> f64
     requires { 4 ≤ length m.now }
     ensures { result ≡ two_by_two m.now }
@@ -78,6 +84,7 @@ pub fn two_by_two(m: &[f64]) -> f64
 }
 
 // The determinant, where the rows fit.
+#[tactic(auto, unfolding(crate::specs::Determinant::det_of))]
 pub fn det_of(m: &mut [f64], n: usize) -> f64
     requires { n * n ≤ length m.old }
     ensures { (m.new, result) ≡ det_of n m.old }

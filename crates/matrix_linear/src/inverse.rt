@@ -1,10 +1,6 @@
 // Gauss and Jordan on the rows of a matrix and, beside it, the unit matrix.
 ghost use Rattle.std.specs.Prelude.{◌≡◌, ◌+◌, ◌*◌, ◌≤◌, ◌<◌, length};
-ghost use Rattle.matrix_linear.specs.Inner.{counted, all_counted};
-ghost use Rattle.matrix_linear.specs.Inverse.{zero_right, unit_row, unit, clear_other, clear_others, full_column};
-
-use super::pivots::pivot;
-use super::place::skips;
+ghost use Rattle.matrix_linear.specs.Inverse.{zero_right, unit_row, unit, clear_other, clear_others};
 
 // The right half of row i becomes 0.
 pub fn zero_right(m: &mut [f64], n: usize, i: usize)
@@ -18,6 +14,7 @@ pub fn zero_right(m: &mut [f64], n: usize, i: usize)
 }
 
 // The right half of row i becomes that of the unit matrix.
+#[tactic(auto, using(crate::proofs::Calls::unit_put))]
 pub fn unit_row(m: &mut [f64], n: usize, i: usize)
     requires { (i < n) × (i * (2 * n) + 2 * n ≤ length m.old) }
     ensures { m.new ≡ unit_row n i m.old }
@@ -27,6 +24,7 @@ pub fn unit_row(m: &mut [f64], n: usize, i: usize)
 }
 
 // The right half becomes the unit matrix.
+#[tactic(auto, using(base::proofs::Loops::step, base::proofs::Loops::ends), unfolding(crate::specs::Inverse::unit))]
 pub fn unit(m: &mut [f64], n: usize)
     requires { n * (2 * n) ≤ length m.old }
     ensures { m.new ≡ unit n m.old }
@@ -37,6 +35,7 @@ pub fn unit(m: &mut [f64], n: usize)
 }
 
 // A row r other than col, less m[r][col] times row col.
+#[tactic(auto, using(base::proofs::Bounds::else_of, matrix_places::proofs::Rows::less_room), unfolding(crate::specs::Inverse::clear_other))]
 pub fn clear_other(m: &mut [f64], w: usize, col: usize, r: usize)
     requires { (col < w) × ((col * w + w ≤ length m.old) × (r * w + w ≤ length m.old)) }
     ensures { m.new ≡ clear_other w col r m.old }
@@ -60,33 +59,4 @@ pub fn clear_others(m: &mut [f64], n: usize, w: usize, col: usize)
     for r in col + 1..n {
         clear_other(m, w, col, r);
     }
-}
-
-// One column: rows swap, and unless the pivot is too small its row is divided by it and taken from all others. `skipped` columns were
-// skipped before it; the result counts this one too.
-pub fn full_column(m: &mut [f64], n: usize, w: usize, col: usize, skipped: usize) -> usize
-    requires { (col < n) × ((n ≤ w) × (n * w ≤ length m.old)) × (skipped ≤ col) }
-    ensures { ((m.new, result) ≡ counted (full_column n w) n w col (m.old, skipped)) × (result ≤ skipped + 1) }
-{
-    pivot(m, n, w, col);
-    let p = col * w + col;
-    if skips(m, p) {
-        return skipped + 1;
-    }
-    let d = m[p];
-    matrix_places::over_row(m, col * w, d, w);
-    clear_others(m, n, w, col);
-    skipped
-}
-
-// All columns: how many were skipped.
-pub fn full_columns(m: &mut [f64], n: usize, w: usize) -> usize
-    requires { (n ≤ w) × (n * w ≤ length m.old) }
-    ensures { (m.new, result) ≡ all_counted (full_column n w) n w m.old }
-{
-    let mut skipped = 0;
-    for col in 0..n {
-        skipped = full_column(m, n, w, col, skipped);
-    }
-    skipped
 }

@@ -1,6 +1,7 @@
 // Dense linear algebra on flat slices: the rows of a matrix lie one after another in lent memory.
 #![tactic(auto)]
 
+mod clearing;
 mod determinant;
 mod inverse;
 mod pivots;
@@ -14,9 +15,10 @@ ghost use Rattle.matrix_linear.specs.System.{solve_linear_system};
 ghost use Rattle.matrix_linear.specs.Inverse.{matrix_inverse};
 ghost use Rattle.matrix_linear.specs.Determinant.{matrix_determinant};
 
+use clearing::{Below, Others, columns};
 use determinant::det_of;
-use inverse::{full_columns, unit};
-use system::{backward, forward};
+use inverse::unit;
+use system::backward;
 
 // As many levels of one factor by as many of the other: no system of a two-way analysis is larger.
 const MOST_ROWS: usize = base::MOST_LEVELS * base::MOST_LEVELS;
@@ -49,7 +51,7 @@ pub fn solve_linear_system(m: &mut [f64], n: usize) -> Elimination
     if m.len() < n * (n + 1) {
         return not_taken();
     }
-    let skipped = forward(m, n, n + 1);
+    let skipped = columns::<Below>(m, n, n + 1);
     backward(m, n);
     float::canon_places(m, n * (n + 1));
     Elimination {
@@ -70,7 +72,7 @@ pub fn matrix_inverse(m: &mut [f64], n: usize) -> Elimination
         return not_taken();
     }
     unit(m, n);
-    let skipped = full_columns(m, n, 2 * n);
+    let skipped = columns::<Others>(m, n, 2 * n);
     float::canon_places(m, n * (2 * n));
     Elimination {
         taken: true,

@@ -6,6 +6,7 @@ use super::place::abs_at;
 use super::rows::swap_rows;
 
 // The better of row best and row r for a pivot: r only if it is strictly larger.
+#[tactic(auto, using(crate::proofs::Candidates::strictly_larger, crate::proofs::Candidates::not_larger))]
 pub fn better(m: &[f64], w: usize, col: usize, r: usize, best: usize) -> usize
     requires { (col < w) × ((r * w + w ≤ length m.now) × (best * w + w ≤ length m.now)) }
     ensures { result ≡ better m.now w col r best }
@@ -17,6 +18,7 @@ pub fn better(m: &[f64], w: usize, col: usize, r: usize, best: usize) -> usize
 }
 
 // The row, from col on, whose absolute value in the column is largest: the first of such.
+#[tactic(auto, using(base::proofs::Loops::step, base::proofs::Loops::ends, crate::proofs::Candidates::better_lt, base::proofs::Bounds::row_end), unfolding(crate::specs::Rows::pivot_row))]
 pub fn pivot_row(m: &[f64], n: usize, w: usize, col: usize) -> usize
     requires { (col < n) × ((n ≤ w) × (n * w ≤ length m.now)) }
     ensures { (result ≡ pivot_row n w col m.now) × (result < n) }
@@ -29,6 +31,7 @@ pub fn pivot_row(m: &[f64], n: usize, w: usize, col: usize) -> usize
 }
 
 // The pivot's row comes to row col.
+#[tactic(auto, using(crate::proofs::Columns::pivot_came, base::proofs::Bounds::row_end))]
 pub fn pivot(m: &mut [f64], n: usize, w: usize, col: usize)
     requires { (col < n) × ((n ≤ w) × (n * w ≤ length m.old)) }
     ensures { m.new ≡ pivoted n w col m.old }
@@ -38,6 +41,7 @@ pub fn pivot(m: &mut [f64], n: usize, w: usize, col: usize)
 }
 
 // Row r less the multiple of row col that clears the column.
+#[tactic(auto, using(matrix_places::proofs::Rows::less_room), unfolding(crate::specs::Rows::clear_row))]
 pub fn clear_row(m: &mut [f64], w: usize, col: usize, r: usize)
     requires { (col < w) × ((col * w + w ≤ length m.old) × (r * w + w ≤ length m.old)) }
     ensures { m.new ≡ clear_row w col r m.old }
@@ -47,6 +51,7 @@ pub fn clear_row(m: &mut [f64], w: usize, col: usize, r: usize)
 }
 
 // The column is cleared below row col.
+#[tactic(auto, using(base::proofs::Loops::step, base::proofs::Loops::ends), unfolding(crate::specs::Rows::clear_below))]
 pub fn clear_below(m: &mut [f64], n: usize, w: usize, col: usize)
     requires { (col < n) × ((n ≤ w) × (n * w ≤ length m.old)) }
     ensures { m.new ≡ clear_below n w col m.old }

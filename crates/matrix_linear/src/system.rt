@@ -1,38 +1,11 @@
-// Elimination and back substitution of a linear system.
+// Back substitution of a linear system.
 ghost use Rattle.std.specs.Prelude.{◌≡◌, ◌+◌, ◌*◌, ◌≤◌, ◌<◌, length};
-ghost use Rattle.matrix_linear.specs.Inner.{counted, all_counted};
-ghost use Rattle.matrix_linear.specs.System.{column, back_sum, back_value, back_row, backward};
+ghost use Rattle.matrix_linear.specs.System.{back_sum, back_value, back_row, backward};
 
-use super::pivots::{clear_below, pivot};
 use super::place::skips;
 
-// One column of the elimination: rows swap, and the column is cleared below row col unless the pivot is too small. `skipped` columns were
-// skipped before it; the result counts this one too.
-pub fn column(m: &mut [f64], n: usize, w: usize, col: usize, skipped: usize) -> usize
-    requires { (col < n) × ((n ≤ w) × (n * w ≤ length m.old)) × (skipped ≤ col) }
-    ensures { ((m.new, result) ≡ counted (column n w) n w col (m.old, skipped)) × (result ≤ skipped + 1) }
-{
-    pivot(m, n, w, col);
-    if skips(m, col * w + col) {
-        return skipped + 1;
-    }
-    clear_below(m, n, w, col);
-    skipped
-}
-
-// Elimination, column by column: how many were skipped.
-pub fn forward(m: &mut [f64], n: usize, w: usize) -> usize
-    requires { (n ≤ w) × (n * w ≤ length m.old) }
-    ensures { (m.new, result) ≡ all_counted (column n w) n w m.old }
-{
-    let mut skipped = 0;
-    for col in 0..n {
-        skipped = column(m, n, w, col, skipped);
-    }
-    skipped
-}
-
 // The right side of row i less the row's products with the values that are known.
+#[tactic(auto, using(base::proofs::Loops::step, base::proofs::Loops::ends), unfolding(crate::specs::System::back_sum))]
 pub fn back_sum(m: &[f64], n: usize, i: usize) -> f64
     requires { (i < n) × (n * (n + 1) ≤ length m.now) }
     ensures { result ≡ back_sum n i m.now }
@@ -47,6 +20,7 @@ pub fn back_sum(m: &[f64], n: usize, i: usize) -> f64
 }
 
 // x[i]: 0 where the divisor is too small.
+#[tactic(auto, unfolding(crate::specs::System::back_value))]
 pub fn back_value(m: &[f64], n: usize, i: usize) -> f64
     requires { (i < n) × (n * (n + 1) ≤ length m.now) }
     ensures { result ≡ back_value n i m.now }
@@ -59,6 +33,7 @@ pub fn back_value(m: &[f64], n: usize, i: usize) -> f64
 }
 
 // x[n - 1 - k] takes the place of its right side.
+#[tactic(auto, unfolding(crate::specs::System::back_row))]
 pub fn back_row(m: &mut [f64], n: usize, k: usize)
     requires { (k < n) × (n * (n + 1) ≤ length m.old) }
     ensures { m.new ≡ back_row n k m.old }
@@ -68,6 +43,7 @@ pub fn back_row(m: &mut [f64], n: usize, k: usize)
 }
 
 // Back substitution, from the last row up.
+#[tactic(auto, using(base::proofs::Loops::step, base::proofs::Loops::ends), unfolding(crate::specs::System::backward))]
 pub fn backward(m: &mut [f64], n: usize)
     requires { n * (n + 1) ≤ length m.old }
     ensures { m.new ≡ backward n m.old }

@@ -10,6 +10,7 @@ use rows::orthonormal_rows;
 
 // The p rows of k places become orthonormal, each after those before it.
 // Sizes that are not taken, or no room for the rows: false, and nothing is changed.
+#[tactic(auto, using(crate::proofs::Calls::orthonormal_refused, crate::proofs::Calls::orthonormal_taken, matrix_places::proofs::Sizes::Sized, matrix_places::proofs::Sizes::sized))]
 pub fn orthonormalize(c: &mut [f64], p: usize, k: usize) -> bool
     ensures { (c.new, result) ≡ orthonormalize p k c.old }
 {

@@ -4,6 +4,7 @@ ghost use Rattle.base.specs.Limits.{most_conditions};
 ghost use Rattle.matrix_orthonormal.specs.Orthonormal.{row_dot, project_row, project_rows, normalize_row, orthonormal_row, orthonormal_rows};
 
 // The sum from -0.0 of the products of row i with row j.
+#[tactic(auto, using(matrix_places::proofs::Room::dot_room))]
 pub fn row_dot(c: &[f64], k: usize, i: usize, j: usize) -> f64
     requires { (k ≤ most_conditions) × ((i * k + k ≤ length c.now) × (j * k + k ≤ length c.now)) }
     ensures { result ≡ row_dot k i j c.now }
@@ -12,6 +13,7 @@ pub fn row_dot(c: &[f64], k: usize, i: usize, j: usize) -> f64
 }
 
 // Row i less its projection onto row j.
+#[tactic(auto, using(matrix_places::proofs::Rows::less_room, crate::proofs::Steps::row_projected))]
 pub fn project_row(c: &mut [f64], k: usize, i: usize, j: usize)
     requires { (k ≤ most_conditions) × ((i * k + k ≤ length c.old) × (j * k + k ≤ length c.old)) }
     ensures { c.new ≡ project_row k i j c.old }
@@ -21,6 +23,7 @@ pub fn project_row(c: &mut [f64], k: usize, i: usize, j: usize)
 }
 
 // Row i less its projections onto the rows before it, one after another.
+#[tactic(auto, using(base::proofs::Loops::step, base::proofs::Loops::ends), unfolding(crate::specs::Orthonormal::project_rows))]
 pub fn project_rows(c: &mut [f64], k: usize, i: usize)
     requires { (k ≤ most_conditions) × (i * k + k ≤ length c.old) }
     ensures { c.new ≡ project_rows k i c.old }
@@ -31,6 +34,7 @@ pub fn project_rows(c: &mut [f64], k: usize, i: usize)
 }
 
 // Row i divided by its norm, unless that is too small or a NaN.
+#[tactic(auto, using(matrix_places::proofs::Rows::over_room, crate::proofs::Steps::row_divided, crate::proofs::Steps::row_left))]
 pub fn normalize_row(c: &mut [f64], k: usize, i: usize)
     requires { (k ≤ most_conditions) × (i * k + k ≤ length c.old) }
     ensures { c.new ≡ normalize_row k i c.old }
@@ -43,6 +47,7 @@ pub fn normalize_row(c: &mut [f64], k: usize, i: usize)
 }
 
 // Row i, where the rows before it are done.
+#[tactic(auto, using(crate::proofs::Steps::row_done))]
 pub fn orthonormal_row(c: &mut [f64], k: usize, i: usize)
     requires { (k ≤ most_conditions) × (i * k + k ≤ length c.old) }
     ensures { c.new ≡ orthonormal_row k i c.old }
@@ -52,6 +57,7 @@ pub fn orthonormal_row(c: &mut [f64], k: usize, i: usize)
 }
 
 // All rows.
+#[tactic(auto, using(base::proofs::Loops::step, base::proofs::Loops::ends), unfolding(crate::specs::Orthonormal::orthonormal_rows))]
 pub fn orthonormal_rows(c: &mut [f64], p: usize, k: usize)
     requires { (k ≤ most_conditions) × (p * k ≤ length c.old) }
     ensures { c.new ≡ orthonormal_rows p k c.old }

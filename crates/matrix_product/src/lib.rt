@@ -42,6 +42,7 @@ fn misfits(
 // The product of the n rows of l places of a and the w columns of b, to the first places of out. Column j of b begins at j * u, and its places are t apart:
 // so one function serves a matrix (u = 1, t its row's length) and one that is turned over (u its row's length, t = 1).
 // Where one of the matrices does not fit, nothing is changed.
+#[tactic(auto, using(base::proofs::Bounds::then_of, base::proofs::Bounds::else_of, crate::proofs::Fits::Fits, crate::proofs::Fits::fitting), unfolding(crate::specs::Product::product_in))]
 pub fn product(
     a: &[f64],
     b: &[f64],

@@ -23,6 +23,7 @@ pub fn product_row(
 }
 
 // All n rows of the product.
+#[tactic(auto, using(base::proofs::Loops::step, base::proofs::Loops::ends), unfolding(crate::specs::Product::product))]
 pub fn product_rows(
     a: &[f64],
     b: &[f64],

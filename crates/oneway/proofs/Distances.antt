@@ -5,14 +5,15 @@ use Prim.Native.Nat.{ℕ, ◌+◌, ◌-◌, ◌<◌, ◌≤◌}
 use native.Mathlib.Numerals.{add-one}
 use native.Mathlib.Omega.{arith}
 use lib.Ieee.{Float, nan}
-use lib.ListN.{length, get_or, take, drop, drop_of_length-le, length-map}
-use lib.Seq.{drop-cons, sets, length-sets}
+use lib.ListN.{length, get_or, take, drop, drop_of_length-le, length-map, length-append}
+use lib.Seq.{drop-cons, sets, length-sets, take_at, length-take-le}
 use Rattle.base.specs.Lists.{total, cut}
 use Rattle.base.proofs.Cuts.{cut_turn, cut_done, length_cut, lengths_cut, own_cut, total_flatten}
 use Rattle.base.proofs.Parts.{length_part}
 use Rattle.base.proofs.Runs.{over_all, part_put, sets_append, sets_over}
 use Rattle.base.proofs.Searches.{here}
 use Rattle.oneway_rows.specs.declared.Row.{Row}
+use Rattle.oneway_rows.specs.Inner.{Parted}
 use Rattle.oneway.specs.Summary.{size_of, row_mean}
 use Rattle.oneway.specs.Levene.{distance, distances, fisher_of, levene_anova}
 
@@ -45,6 +46,20 @@ module _ (ms : List Float) (ns : List ℕ) (xs : List Float) (e : length ms ≡ 
 
     pub putting_starts : (out : List Float) → length out ≡ length xs → putting ms ns xs 0 0 out ≡ flatten far
     putting_starts out l = let f = far_length in sets_over (flatten far) out (omega arith) ∙ over_all (flatten far) out (omega arith)
+
+  -- the places in which they were put; `back` is what lies behind them
+  module _ (p : Parted (length xs) ns) {out : List Float} (put : out ≡ flatten far) (back : List Float) where
+    pub put_front : take (length xs) (out ++ back) ≡ flatten far
+    put_front = take_at out back _ (ap length put ∙ far_length p.sizes.adds) ∙ put
+
+    put_long : length xs ≤ length (out ++ back)
+    put_long = let l = ap length put ∙ far_length p.sizes.adds in rw (length-append out back) (omega (arith, l))
+
+    pub put_parted : Parted (length (take (length xs) (out ++ back))) ns
+    put_parted = rw (length-take-le (length xs) (out ++ back) put_long) p
+
+    pub put_cut : cut ns (take (length xs) (out ++ back)) ≡ far
+    put_cut = rw put_front (far_cut p.sizes.adds)
 
   -- group g of the walk, which begins at `at`; ys are its distances
   module _ (g at : ℕ) (out : List Float) where

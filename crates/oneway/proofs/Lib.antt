@@ -1,4 +1,3 @@
-pub mod Columns
 pub mod Summaries
 pub mod Distances
 pub mod Reports

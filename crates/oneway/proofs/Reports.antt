@@ -9,7 +9,7 @@ use Rattle.base.specs.declared.Refusal.{Refusal}
 use Rattle.base.specs.Lists.{total}
 use Rattle.base.specs.Refusals.{refuse, none}
 use Rattle.base.specs.Sizes.{not_adding_up}
-use Rattle.base.proofs.Order.{first_wins, second_asked, stops, passed_answer, refused_answer}
+use Rattle.base.proofs.Order.{first_wins, second_asked, passed_answer, refused_answer}
 use Rattle.oneway_rows.specs.declared.Row.{Row}
 use Rattle.oneway_rows.specs.Soundness.{sizes_in, sound_refusal}
 use Rattle.results.specs.Results.{refused_result}
@@ -22,10 +22,6 @@ use Rattle.oneway.specs.Anova.{anova, report_refusal, rows_report}
 
 -- k rows beside n readings
 module _ (k : ℕ) (rows : List Row) (n : ℕ) where
-  pub unsound_stops : {r : Refusal} → r ≡ sound_refusal k rows → (r.number ≡ 0 → ⊥) → r ≡ report_refusal k rows n
-  unfolding report_refusal
-  unsound_stops e f = stops (sound_refusal k rows) (not_adding_up n (sizes_in k rows)) e f
-
   module _ (z : (sound_refusal k rows).number ≡ 0) {needed : ℕ} (e : needed ≡ total (sizes_in k rows)) where
     pub ten : (needed ≡ n → ⊥) → refuse 10 needed n ≡ report_refusal k rows n
     unfolding report_refusal

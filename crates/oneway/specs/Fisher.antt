@@ -5,24 +5,24 @@ use Rattle.float.specs.Words.{◌⊕◌, ◌⊖◌, ◌⊗◌, ◌⊘◌, count,
 use Rattle.stats.specs.Sums.{sum, sum_by}
 use Rattle.oneway_rows.specs.declared.Row.{Row}
 use Rattle.results.specs.declared.OneWayAnovaResult.{OneWayAnovaResult}
-use Rattle.oneway.specs.declared.fisher.Squares.{Squares}
-use Rattle.oneway.specs.declared.fisher.Squares.TheVariants.{Between, Within}
 use Rattle.oneway.specs.Summary.{n_total, group_sizes, group_means}
 
 -- what a group adds to the sums of squares: between the groups, its size times the squared distance of its mean from the grand mean; within, its own squared distances
-abbrev pub squares_of : Squares → Row → Float
-squares_of (Between grand) r = count r.size ⊗ square (r.mean ⊖ grand)
-squares_of Within r = r.sq_dev
+abbrev pub between_of : Float → Row → Float
+between_of grand r = count r.size ⊗ square (r.mean ⊖ grand)
+
+abbrev pub within_of : Row → Float
+within_of r = r.sq_dev
 
 -- the grand mean is that of all readings, not of the means
 abbrev pub grand_mean : List Row → List Float → Float
 grand_mean rs xs = sum xs ⊘ count (n_total rs)
 
 abbrev pub ss_between : List Row → List Float → Float
-ss_between rs xs = sum_by (squares_of (Between (grand_mean rs xs))) rs
+ss_between rs xs = sum_by (between_of (grand_mean rs xs)) rs
 
 abbrev pub ss_within : List Row → Float
-ss_within rs = sum_by (squares_of Within) rs
+ss_within rs = sum_by within_of rs
 
 abbrev pub df_between : List Row → Float
 df_between rs = count (length rs - 1)

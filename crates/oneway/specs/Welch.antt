@@ -9,8 +9,6 @@ use Rattle.results.specs.declared.OneWayAnovaResult.{OneWayAnovaResult}
 use Rattle.oneway.specs.declared.welch.Weighed.{Weighed}
 use Rattle.oneway.specs.declared.welch.WelchSums.{WelchSums}
 use Rattle.oneway.specs.declared.welch.WelchTest.{WelchTest}
-use Rattle.oneway.specs.declared.welch.Share.{Share}
-use Rattle.oneway.specs.declared.welch.Share.TheVariants.{Weight, Mean, Spread, Rest}
 use Rattle.oneway.specs.Summary.{n_total, group_sizes, group_means}
 
 -- a group's variance, from its row
@@ -25,27 +23,33 @@ abbrev pub weigh : ℕ → Row → Weighed
 weigh k r = record { size = r.size; mean = r.mean; weight = weight_of k r }
 
 -- what a group adds: to the weights, to the weighted mean, to the spread of the means about it, and to the adjustment
-abbrev pub share_of : Share → Weighed → Float
-share_of Weight w = w.weight
-share_of Mean w = w.weight ⊗ w.mean
-share_of (Spread mean) w = w.weight ⊗ square (w.mean ⊖ mean)
-share_of (Rest weights) w = square (one ⊖ w.weight ⊘ weights) ⊘ count (w.size - 1)
+abbrev pub weight_in : Weighed → Float
+weight_in w = w.weight
+
+abbrev pub mean_in : Weighed → Float
+mean_in w = w.weight ⊗ w.mean
+
+abbrev pub spread_about : Float → Weighed → Float
+spread_about mean w = w.weight ⊗ square (w.mean ⊖ mean)
+
+abbrev pub rest_of : Float → Weighed → Float
+rest_of weights w = square (one ⊖ w.weight ⊘ weights) ⊘ count (w.size - 1)
 
 abbrev pub all_weighed : List Row → List Weighed
 all_weighed rs = map (weigh (length rs)) rs
 
 -- over the weighed rows ws: the weights, the weighted mean, the spread of the means about it, and the adjustment for unequal variances
 abbrev pub sum_weights : List Weighed → Float
-sum_weights ws = sum_by (share_of Weight) ws
+sum_weights ws = sum_by weight_in ws
 
 abbrev pub weighted_grand_mean : List Weighed → Float
-weighted_grand_mean ws = sum_by (share_of Mean) ws ⊘ sum_weights ws
+weighted_grand_mean ws = sum_by mean_in ws ⊘ sum_weights ws
 
 abbrev pub spread : List Weighed → Float
-spread ws = sum_by (share_of (Spread (weighted_grand_mean ws))) ws
+spread ws = sum_by (spread_about (weighted_grand_mean ws)) ws
 
 abbrev pub adjustment : List Weighed → Float
-adjustment ws = sum_by (share_of (Rest (sum_weights ws))) ws
+adjustment ws = sum_by (rest_of (sum_weights ws)) ws
 
 abbrev pub welch_sums : List Weighed → WelchSums
 welch_sums ws = record { spread = spread ws; adjustment = adjustment ws }

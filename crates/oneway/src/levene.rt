@@ -6,7 +6,7 @@ ghost use Rattle.oneway_rows.specs.Inner.{Parted};
 ghost use Rattle.oneway.specs.Inner.{Given};
 ghost use Rattle.oneway.specs.Levene.{distance, distances, fisher_of};
 
-use crate::{fisher, summary};
+use crate::fisher;
 use results::OneWayAnovaResult;
 
 // The distance of each reading of a group from `mean`, put into its place.
@@ -14,10 +14,8 @@ fn put_group(out: &mut [f64], group: &[f64], mean: f64)
     requires { length out.old ≡ length group.now }
     ensures { out.new ≡ map (distance mean) group.now }
 {
-    let mut i = 0;
-    while i < group.len() {
-        out[i] = float::abs(group[i] - mean);
-        i += 1;
+    for (i, x) in group.iter().enumerate() {
+        out[i] = float::abs(*x - mean);
     }
 }
 
@@ -27,12 +25,10 @@ fn put_distances(out: &mut [f64], readings: &[f64], sizes: &[u32], means: &[f64]
     ensures { out.new ≡ flatten (distances means.now (cut sizes.now readings.now)) }
 {
     let mut at = 0;
-    let mut g = 0;
-    while g < sizes.len() {
-        let end = at + sizes[g] as usize;
+    for (g, size) in sizes.iter().enumerate() {
+        let end = at + *size as usize;
         put_group(&mut out[at..end], &readings[at..end], means[g]);
         at = end;
-        g += 1;
     }
 }
 
@@ -44,6 +40,6 @@ pub fn levene_anova(readings: &[f64], sizes: &[u32], means: &[f64]) -> OneWayAno
     let n = readings.len();
     let mut places = [0.0; base::MOST_READINGS];
     put_distances(&mut places[..n], readings, sizes, means);
-    let s = summary::summarize(&places[..n], sizes);
-    fisher::fisher_anova(s, &places[..n])
+    let rows = oneway_rows::rows_of(&places[..n], sizes);
+    fisher::fisher_anova(&rows[..sizes.len()], &places[..n])
 }

@@ -24,17 +24,22 @@ pub enum AnovaKind {
 pub fn one_way_anova(readings: &[f64], sizes: &[u32], kind: AnovaKind) -> OneWayAnovaResult
     ensures { result ≡ one_way_anova kind readings.now sizes.now }
 {
-    let refusal = oneway_checks::one_way_refusal(readings, sizes);
-    if refusal.number != 0 {
+    if let Err(refusal) = oneway_checks::one_way_refusal(readings, sizes) {
         return results::refused(refusal);
     }
+    let k = sizes.len();
     match kind {
-        AnovaKind::Fisher => fisher::fisher_anova(summary::summarize(readings, sizes), readings),
-        AnovaKind::Welch => welch::welch_anova(summary::summarize(readings, sizes)),
-        AnovaKind::Levene => {
-            let means = summary::means_of(readings, sizes);
-            levene::levene_anova(readings, sizes, &means[..sizes.len()])
-        }
+        AnovaKind::Fisher => fisher::fisher_anova(
+            &oneway_rows::rows_of(readings, sizes)[..k],
+            readings,
+        ),
+        AnovaKind::Welch => welch::welch_anova(&oneway_rows::rows_of(readings, sizes)[..k]),
+        // Levene's analysis looks at the means alone, and so does not work out the squares.
+        AnovaKind::Levene => levene::levene_anova(
+            readings,
+            sizes,
+            &summary::means_of(readings, sizes)[..k],
+        ),
     }
 }
 
@@ -48,23 +53,20 @@ pub fn report(
 ) -> OneWayAnovaResult
     ensures { result ≡ rows_report kind k rows readings.now }
 {
-    let unsound = oneway_rows::sound::rows_refusal(rows, k);
-    if unsound.number != 0 {
+    if let Err(unsound) = oneway_rows::sound::rows_refusal(rows, k) {
         return results::refused(unsound);
     }
-    let s = summary::summarize_rows(rows, k);
-    let needed = s.n_total as u64;
+    let rows = &rows[..k];
+    let needed = summary::n_total(rows) as u64;
     if needed != readings.len() as u64 {
         return results::refused(Refusal::new(10, needed, readings.len() as u64));
     }
     match kind {
-        AnovaKind::Fisher => fisher::fisher_anova(s, readings),
-        AnovaKind::Welch => welch::welch_anova(s),
+        AnovaKind::Fisher => fisher::fisher_anova(rows, readings),
+        AnovaKind::Welch => welch::welch_anova(rows),
         AnovaKind::Levene => {
-            let n = s.n_groups;
-            let sizes = s.group_sizes;
-            let means = s.group_means;
-            levene::levene_anova(readings, &sizes[..n], &means[..n])
+            let (sizes, means) = summary::columns(rows);
+            levene::levene_anova(readings, &sizes[..k], &means[..k])
         }
     }
 }

@@ -1,12 +1,12 @@
 // Welch's analysis, which lets the groups' variances differ: each group has a weight.
-ghost use Rattle.std.specs.Prelude.{◌≡◌, List, ◌≤◌};
+ghost use Rattle.std.specs.Prelude.{◌≡◌, ◌≤◌, length};
 ghost use Rattle.base.specs.Limits.{most_groups};
-ghost use Rattle.oneway_rows.specs.declared.Row.{Row};
+ghost use Rattle.base.specs.Lists.{over};
 ghost use Rattle.stats.specs.Sums.{sum_by};
-ghost use Rattle.oneway.specs.Inner.{Long, Lined, lines_of, row, summary_of, weighed, weights};
-ghost use Rattle.oneway.specs.Welch.{weigh, share_of, welch_sums, welch_test, welch_anova};
+ghost use Rattle.oneway.specs.Inner.{Small, none_weighed};
+ghost use Rattle.oneway.specs.Welch.{weigh, all_weighed, sum_weights, mean_in, spread_about, rest_of, welch_sums, welch_test, welch_anova};
 
-use crate::summary::Summary;
+use crate::summary;
 use base::Refusal;
 use oneway_rows::Row;
 use results::OneWayAnovaResult;
@@ -33,115 +33,85 @@ pub struct WelchTest {
     pub df_within: f64,
 }
 
-// What is added up over the weighed rows.
-#[derive(Clone, Copy)]
-pub enum Share {
-    Weight,
-    Mean,
-    Spread(f64),
-    Rest(f64),
-}
-
 // The weight of a row among k. A variance below 1e-15, of a group that is as good as constant, has the largest weight.
-fn weigh(row: Row, k: u32) -> Weighed
-    ensures { result ≡ weigh k row }
+fn weigh(row: &Row, k: u32) -> Weighed
+    ensures { result ≡ weigh k row.now }
 {
     let variance = row.sq_dev / (base::minus(row.size, 1) as f64);
-    if variance < 1e-15 {
-        return Weighed {
-            size: row.size,
-            mean: row.mean,
-            weight: 1.7976931348623157e308 / (k as f64),
-        };
-    }
+    let weight = if variance < 1e-15 {
+        f64::MAX / (k as f64)
+    } else {
+        (row.size as f64) / variance
+    };
     Weighed {
         size: row.size,
         mean: row.mean,
-        weight: (row.size as f64) / variance,
+        weight,
     }
 }
 
-fn weights(
-    sizes: &[u32; base::MOST_GROUPS],
-    means: &[f64; base::MOST_GROUPS],
-    devs: &[f64; base::MOST_GROUPS],
-    k: usize,
-) -> [f64; base::MOST_GROUPS]
-    requires { Long k sizes.now means.now devs.now }
-    ensures { result ≡ weights (lines_of row k sizes.now means.now devs.now) }
+// The rows weighed, and zeros behind them.
+fn weigh_all(rows: &[Row]) -> [Weighed; base::MOST_GROUPS]
+    requires { length rows.now ≤ most_groups }
+    ensures { result ≡ over (all_weighed rows.now) none_weighed }
 {
-    let mut out = [0.0; base::MOST_GROUPS];
-    let mut g = 0;
-    while g < k {
-        let row = Row {
-            size: sizes[g],
-            mean: means[g],
-            sq_dev: devs[g],
-        };
-        let w = weigh(row, k as u32);
-        out[g] = w.weight;
-        g += 1;
+    let mut weighed = [Weighed {
+        size: 0,
+        mean: 0.0,
+        weight: 0.0,
+    }; base::MOST_GROUPS];
+    for (g, row) in rows.iter().enumerate() {
+        weighed[g] = weigh(row, rows.len() as u32);
     }
-    out
+    weighed
 }
 
-fn term(row: Weighed, what: Share) -> f64
-    ensures { result ≡ share_of what row }
+#[tactic(auto, unfolding(stats::specs::Sums::sum_by))]
+fn sum_weights(rows: &[Weighed]) -> f64
+    ensures { result ≡ sum_weights rows.now }
 {
-    match what {
-        Share::Weight => row.weight,
-        Share::Mean => row.weight * row.mean,
-        Share::Spread(mean) => {
+    float::canon(rows.iter().fold(-0.0, |t, row| t + row.weight))
+}
+
+#[tactic(auto, unfolding(stats::specs::Sums::sum_by))]
+fn weighted_sum(rows: &[Weighed]) -> f64
+    ensures { result ≡ sum_by mean_in rows.now }
+{
+    float::canon(rows.iter().fold(-0.0, |t, row| t + row.weight * row.mean))
+}
+
+#[tactic(auto, unfolding(stats::specs::Sums::sum_by))]
+fn spread(rows: &[Weighed], mean: f64) -> f64
+    ensures { result ≡ sum_by (spread_about mean) rows.now }
+{
+    float::canon(
+        rows.iter().fold(-0.0, |t, row| {
             let d = row.mean - mean;
-            row.weight * (d * d)
-        }
-        Share::Rest(sum_weights) => {
+            t + row.weight * (d * d)
+        }),
+    )
+}
+
+#[tactic(auto, unfolding(stats::specs::Sums::sum_by))]
+fn adjustment(rows: &[Weighed], sum_weights: f64) -> f64
+    ensures { result ≡ sum_by (rest_of sum_weights) rows.now }
+{
+    float::canon(
+        rows.iter().fold(-0.0, |t, row| {
             let d = 1.0 - row.weight / sum_weights;
-            d * d / (base::minus(row.size, 1) as f64)
-        }
-    }
+            t + d * d / (base::minus(row.size, 1) as f64)
+        }),
+    )
 }
 
-fn sum_weighed(
-    sizes: &[u32; base::MOST_GROUPS],
-    means: &[f64; base::MOST_GROUPS],
-    weights: &[f64; base::MOST_GROUPS],
-    k: usize,
-    what: Share,
-) -> f64
-    requires { Long k sizes.now means.now weights.now }
-    ensures { result ≡ sum_by (share_of what) (lines_of weighed k sizes.now means.now weights.now) }
+fn welch_sums(rows: &[Weighed]) -> WelchSums
+    ensures { result ≡ welch_sums rows.now }
 {
-    let mut t = -0.0;
-    let mut g = 0;
-    while g < k {
-        let row = Weighed {
-            size: sizes[g],
-            mean: means[g],
-            weight: weights[g],
-        };
-        t = t + term(row, what);
-        g += 1;
-    }
-    float::canon(t)
-}
-
-fn welch_sums(
-    sizes: &[u32; base::MOST_GROUPS],
-    means: &[f64; base::MOST_GROUPS],
-    weights: &[f64; base::MOST_GROUPS],
-    k: usize,
-) -> WelchSums
-    requires { Long k sizes.now means.now weights.now }
-    ensures { result ≡ welch_sums (lines_of weighed k sizes.now means.now weights.now) }
-{
-    let sum_weights = sum_weighed(sizes, means, weights, k, Share::Weight);
-    let weighted_grand_mean = sum_weighed(sizes, means, weights, k, Share::Mean) / sum_weights;
-    let spread = sum_weighed(sizes, means, weights, k, Share::Spread(weighted_grand_mean));
-    let adjustment = sum_weighed(sizes, means, weights, k, Share::Rest(sum_weights));
+    let sum_weights = sum_weights(rows);
+    let weighted_grand_mean = weighted_sum(rows) / sum_weights;
     WelchSums {
-        spread: spread,
-        adjustment: adjustment,
+        spread: spread(rows, weighted_grand_mean),
+        adjustment: adjustment(rows, sum_weights),
     }
 }
 
@@ -158,23 +128,19 @@ fn welch_test(k: u32, sums: WelchSums) -> WelchTest
     let df_within = k_squared_less_one / (3.0 * sums.adjustment);
     WelchTest {
         statistic: float::canon(f_stat),
-        df_between: df_between,
+        df_between,
         df_within: float::canon(df_within),
     }
 }
 
-// Of the rows that s is the summary of.
-pub fn welch_anova(s: Summary) -> OneWayAnovaResult
-    requires { Lined s }
-    ensures { (rs : List Row) → s ≡ summary_of rs → result ≡ welch_anova rs }
+pub fn welch_anova(rows: &[Row]) -> OneWayAnovaResult
+    requires { Small rows.now }
+    ensures { result ≡ welch_anova rows.now }
 {
-    let k = s.n_groups;
-    let group_sizes = s.group_sizes;
-    let group_means = s.group_means;
-    let sq_devs = s.sq_devs;
-    let w = weights(&group_sizes, &group_means, &sq_devs, k);
-    let sums = welch_sums(&group_sizes, &group_means, &w, k);
-    let test = welch_test(k as u32, sums);
+    let k = rows.len();
+    let (group_sizes, group_means) = summary::columns(rows);
+    let weighed = weigh_all(rows);
+    let test = welch_test(k as u32, welch_sums(&weighed[..k]));
     OneWayAnovaResult {
         refusal: Refusal::none(),
         statistic: test.statistic,
@@ -188,9 +154,9 @@ pub fn welch_anova(s: Summary) -> OneWayAnovaResult
         ms_between: 0.0,
         ms_within: 0.0,
         n_groups: k,
-        n_total: s.n_total,
-        group_sizes: group_sizes,
-        group_means: group_means,
+        n_total: summary::n_total(rows),
+        group_sizes,
+        group_means,
         has_grand_mean: false,
         grand_mean: 0.0,
     }

@@ -1,23 +1,23 @@
--- Laws of the rows' counts: the walk over the sizes, and what a passed check leaves known.
-use mathlib.Core.Path.{◌≡◌, refl, sym, ◌∙◌}
-use mathlib.Core.Bool.{Bool, true, false, ◌||◌}
-use mathlib.Core.List.{List, [], ◌∷◌}
+-- Laws of the rows' counts: the tests of the sizes, and what a passed check leaves known.
+use mathlib.Core.Path.{◌≡◌, refl, ap, ◌∙◌}
+use mathlib.Core.Bool.{Bool, false, ◌||◌, or_assoc}
+use mathlib.Core.List.{List, [], ◌∷◌, map}
 use Prim.Native.Nat.{ℕ, zero, suc, ◌+◌, ◌<◌, ◌≤◌}
-use native.Mathlib.Nat.{not-suc-le-zero, le_of_suc-le-suc}
-use native.Mathlib.Numerals.{add-one}
+use native.Mathlib.Nat.{not-suc-le-zero, le_of_suc-le-suc, add_assoc, zero-add}
+use native.Mathlib.Omega.{arith}
 use borrow.Author.Tests.{ltb-false, le-ltb, eqb-false}
 use lib.Dec.{ltb}
 use lib.Ieee.{nan}
-use lib.ListN.{length, get_or, drop, drop_of_length-le}
-use lib.Seq.{drop-cons}
+use lib.ListN.{length, get_or, take}
 use Rattle.base.specs.Limits.{most_groups, most_readings}
 use Rattle.base.specs.Lists.{total}
 use Rattle.base.specs.Refusals.{refuse, none}
-use Rattle.base.proofs.Cuts.{total_turn, total_done}
 use Rattle.base.proofs.Faults.{neither}
 use Rattle.base.proofs.Firsts.{length_firsts, firsts_at}
 use Rattle.base.proofs.Order.{no_fault}
+use Rattle.std.specs.List.{list_any, sum_by, fold}
 use Rattle.oneway_rows.specs.declared.Row.{Row}
+use Rattle.oneway_rows.specs.Inner.{size_of, size_outside}
 use Rattle.oneway_rows.specs.Soundness.{sizes_in, outside, some_outside, unsound, sound_refusal}
 
 -- what a read past an array's end would give: no proof turns on it
@@ -25,7 +25,7 @@ abbrev pub unread : Row
 unread = record { size = 0; mean = nan; sq_dev = nan }
 
 -- a size that is not outside lies between
-inside : (low high n : ℕ) → outside low high n ≡ false → (low ≤ n) × (n ≤ high)
+pub inside : (low high n : ℕ) → outside low high n ≡ false → (low ≤ n) × (n ≤ high)
 inside low high n e =
     let p = neither (ltb n low) (ltb high n) e in
     (ltb-false n low p.0, ltb-false high n p.1)
@@ -44,33 +44,23 @@ module _ (k : ℕ) (rows : List Row) where
   there : (g : ℕ) → k ≤ length rows → g < k → g < length (sizes_in k rows)
   there g l h = rw (length_sizes l) h
 
-  pub size_turn : (g : ℕ) → k ≤ length rows → g < k → total (drop g (sizes_in k rows)) ≡ (get_or rows g unread).size + total (drop (g + 1) (sizes_in k rows))
-  size_turn g l h = rw (← size_at g h) (total_turn (sizes_in k rows) g (there g l h))
+-- the two tests of the first k rows, as the code asks them, and as the definition does
+any_outside : (rows : List Row) → list_any size_outside rows ≡ some_outside (map size_of rows)
+unfolding some_outside
+any_outside [] = refl
+any_outside (r ∷ rows) = ap (λ (b : Bool). outside 2 512 r.size || b) (any_outside rows)
 
-  pub size_done : (g : ℕ) → k ≤ length rows → k ≤ g → total (drop g (sizes_in k rows)) ≡ 0
-  size_done g l h = total_done (sizes_in k rows) g (rw (length_sizes l) h)
+added : (rows : List Row) (t : ℕ) → fold (λ n r. n + size_of r) t rows ≡ t + total (map size_of rows)
+unfolding total
+added [] t = omega arith
+added (r ∷ rows) t = added rows (t + r.size) ∙ add_assoc t r.size (total (map size_of rows))
 
-  -- the search for a size outside: here, further on, or nowhere
-  module _ (g : ℕ) (l : k ≤ length rows) where
-    turned : g < k → some_outside (drop g (sizes_in k rows)) ≡ (outside 2 512 (get_or rows g unread).size || some_outside (drop (g + 1) (sizes_in k rows)))
-    unfolding some_outside
-    turned h = rw (← size_at g h, add-one, drop-cons (sizes_in k rows) g 0 (there g l h))
+pub sizes_added : (rows : List Row) → sum_by size_of rows ≡ total (map size_of rows)
+sizes_added rows = rw (added rows 0) (zero-add _)
 
-    module _ (h : g < k) {o : Bool} (e : o ≡ outside 2 512 (get_or rows g unread).size) where
-      pub outside_here : o ≡ true → some_outside (drop g (sizes_in k rows)) ≡ true
-      outside_here t = rw (turned h, sym e ∙ t)
-
-      pub outside_further : o ≡ false → some_outside (drop (g + 1) (sizes_in k rows)) ≡ some_outside (drop g (sizes_in k rows))
-      outside_further f = rw (turned h, sym e ∙ f)
-
-      pub size_small : o ≡ false → (get_or rows g unread).size ≤ 512
-      size_small f = (inside 2 512 (get_or rows g unread).size (sym e ∙ f)).1
-
-    pub outside_nowhere : k ≤ g → some_outside (drop g (sizes_in k rows)) ≡ false
-    unfolding some_outside
-    outside_nowhere h =
-        let past : length (sizes_in k rows) ≤ g = rw (length_sizes l) h in
-        rw (drop_of_length-le (sizes_in k rows) past)
+pub unsound_rows : (k : ℕ) (rows : List Row) → (outside 2 16 k || (list_any size_outside (take k rows) || ltb 512 (sum_by size_of (take k rows)))) ≡ unsound k (sizes_in k rows)
+unfolding unsound
+unsound_rows k rows = rw (any_outside (take k rows), sizes_added (take k rows), or_assoc (outside 2 16 k) (some_outside (sizes_in k rows)))
 
 -- where there is none, each size lies between
 pub inside_at : (ns : List ℕ) (g : ℕ) → some_outside ns ≡ false → g < length ns → (2 ≤ get_or ns g 0) × (get_or ns g 0 ≤ 512)

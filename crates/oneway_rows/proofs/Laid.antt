@@ -1,28 +1,27 @@
--- Laws of the rows: what a group's row is where its mean is not refused, and the walk that puts the groups' rows in their places.
-use mathlib.Core.Path.{◌≡◌, sym, ap, ◌∙◌}
-use mathlib.Core.List.{List, map}
+-- Laws of the rows: what a group's row is where its mean is not refused, and a walk that puts something of each group in its place.
+use mathlib.Core.Path.{◌≡◌, refl, sym, ap, ◌∙◌}
+use mathlib.Core.List.{List, [], ◌∷◌, map}
 use mathlib.Core.Bool.{false}
 use Prim.Native.Nat.{ℕ, ◌+◌, ◌<◌, ◌≤◌}
-use native.Mathlib.Nat.{zero-add}
 use native.Mathlib.Numerals.{add-one}
 use native.Mathlib.Omega.{arith}
 use borrow.Author.Tests.{le-ltb, ne_eqb}
 use lib.Ieee.{Float}
-use lib.ListN.{length, drop, get_or, set, length-map}
-use lib.Seq.{sets, sets-eq}
+use lib.ListN.{length, take, drop, get_or, set, length-map, length-drop}
+use lib.Seq.{sets, take_all, length-take-le}
 use Rattle.base.specs.Lists.{total, cut, over}
 use Rattle.base.specs.Refusals.{guarded}
-use Rattle.base.proofs.Order.{passed_answer}
-use Rattle.base.proofs.Cuts.{cut_turn, cut_done, length_cut}
-use Rattle.base.proofs.Parts.{length_part}
+use Rattle.base.proofs.Cuts.{cut_next, cut_over, length_cut}
+use Rattle.base.proofs.Faults.{neither}
+use Rattle.base.proofs.Order.{passed_answer, told}
+use Rattle.base.proofs.Runs.{sets_over}
 use Rattle.stats.specs.declared.Figure.{Figure}
 use Rattle.stats.specs.Figures.{mean_refusal, mean_answer, refused_figure}
 use Rattle.stats.specs.Sums.{mean_of, sq_dev}
-use Rattle.base.proofs.Searches.{here, fits_here}
-use Rattle.oneway_rows.specs.Soundness.{some_outside}
-use Rattle.oneway_rows.proofs.Counted.{inside_at}
-use Rattle.oneway_rows.specs.declared.Row.{Row}
-use Rattle.oneway_rows.specs.Rows.{row_of, row_answer, no_row}
+use Rattle.oneway_rows.specs.Inner.{Parted}
+use Rattle.oneway_rows.specs.Soundness.{outside, some_outside}
+use Rattle.oneway_rows.specs.Rows.{row_of, row_answer, no_row, rows_of, rows_answer}
+use Rattle.oneway_rows.proofs.Counted.{inside}
 
 -- the row of 1 to 512 readings is worked out
 pub row_there : (group : List Float) → 1 ≤ length group → length group ≤ 512 → row_answer group ≡ row_of group
@@ -42,36 +41,40 @@ row_made group m d z e q =
     let v : m.value ≡ mean_of group = ap (λ (f : Figure). f.value) (e ∙ passed_answer (mean_refusal (length group)) refused_figure _ z) in
     rw (q, v) (sym (passed_answer (mean_refusal (length group)) no_row (row_of group) z))
 
--- f of the row of each group from g on, put in the places of `out` from g on
-abbrev pub laying : {B : Type 0} → List Float → List ℕ → ℕ → ℕ → (Row → B) → List B → List B
-laying xs ns g at f out = sets out g (map (λ (x : List Float). f (row_of x)) (cut (drop g ns) (drop at xs)))
+-- what `mean` refuses, it tells
+pub mean_tells : (group : List Float) {m : Figure} → m ≡ mean_answer group → m.refusal.number ≡ (mean_refusal (length group)).number
+unfolding mean_answer
+mean_tells group e = told (mean_refusal (length group)) refused_figure _ (λ (f : Figure). f.refusal) (λ r. refl) refl e
 
-module _ (xs : List Float) (ns : List ℕ) (g at : ℕ) where
-  -- a group without a fault has its row
-  module _ (h : g < length ns) (room : at + total (drop g ns) ≡ length xs) (small : length xs ≤ 512) (each : some_outside ns ≡ false) where
-    filled : (1 ≤ length (here xs ns g at)) × (length (here xs ns g at) ≤ 512)
-    filled =
-        let two = inside_at ns g each h in
-        let all = length_part at (get_or ns g 0) xs (fits_here xs ns g at h room) in
-        (omega (arith, two.0, all), omega (arith, fits_here xs ns g at h room, all))
+-- f of each group of what is left, in the places of `out` from g on; `rest` begins with group g
+module _ {B : Type 0} (f : List Float → B) (ns : List ℕ) (g : ℕ) (rest : List Float) where
+  abbrev pub laying : List B → List B
+  laying out = sets out g (map f (cut (drop g ns) rest))
 
-    pub row_here : row_answer (here xs ns g at) ≡ row_of (here xs ns g at)
-    row_here = row_there (here xs ns g at) filled.0 filled.1
+  -- one group more is put in its place
+  pub laid_turn : (out : List B) {b : B} {whole : List B} → laying out ≡ whole → g < length ns → b ≡ f (take (get_or ns g 0) rest)
+      → sets (set out g b) (g + 1) (map f (cut (drop (g + 1) ns) (drop (get_or ns g 0) rest))) ≡ whole
+  laid_turn out e h q = rw (q, add-one) (rw (cut_next ns g rest h, add-one) at e)
 
-    pub mean_here : (mean_answer (here xs ns g at)).value ≡ (row_of (here xs ns g at)).mean
-    mean_here = mean_there (here xs ns g at) filled.0 filled.1
+  pub laid_done : (out : List B) {whole : List B} → laying out ≡ whole → length ns ≤ g → out ≡ whole
+  laid_done out e h = rw (cut_over ns g rest h) at e
 
-    -- one group more is put in its place
-    pub put_turn : {B : Type 0} (f : Row → B) (out : List B) (b : B) → b ≡ f (row_of (here xs ns g at))
-        → laying xs ns (g + 1) (at + get_or ns g 0) f (set out g b) ≡ laying xs ns g at f out
-    put_turn f out b e = rw (cut_turn ns xs at g h, e, add-one)
+pub laid_start : {B : Type 0} (f : List Float → B) (ns : List ℕ) (xs : List Float) (out : List B) → length ns ≤ length out → laying f ns 0 xs out ≡ over (map f (cut ns xs)) out
+laid_start f ns xs out h = sets_over (map f (cut ns xs)) out (rw (length-map, length_cut) h)
 
-    pub row_turn : {B : Type 0} (f : Row → B) (out : List B) (r : Row) → r ≡ row_answer (here xs ns g at)
-        → laying xs ns (g + 1) (at + get_or ns g 0) f (set out g (f r)) ≡ laying xs ns g at f out
-    row_turn f out r e = put_turn f out (f r) (ap f (e ∙ row_here))
+-- where f and h agree on lists of 2 to 512 readings, so they do on each group without a fault
+pub each_group : {B : Type 0} (f h : List Float → B) → ((group : List Float) → 1 ≤ length group → length group ≤ 512 → f group ≡ h group)
+    → (ns : List ℕ) (xs : List Float) → total ns ≤ length xs → length xs ≤ 512 → some_outside ns ≡ false → map f (cut ns xs) ≡ map h (cut ns xs)
+unfolding cut total some_outside
+each_group f h same [] xs l u e = refl
+each_group f h same (n ∷ ns) xs l u e =
+    let p = neither (outside 2 512 n) (some_outside ns) e in
+    let q = length-take-le n xs (omega arith) in
+    let d = length-drop n xs in
+    rw (same (take n xs) (omega (arith, q, inside 2 512 n p.0)) (omega (arith, q)), each_group f h same ns (drop n xs) (omega arith) (omega arith) p.1)
 
-  pub rows_done : {B : Type 0} (f : Row → B) (out : List B) → length ns ≤ g → laying xs ns g at f out ≡ out
-  rows_done f out h = rw (cut_done ns xs at g h)
-
-pub rows_laid : {B : Type 0} (f : Row → B) (xs : List Float) (ns : List ℕ) (out : List B) → length ns ≤ length out → laying xs ns 0 0 f out ≡ over (map (λ (x : List Float). f (row_of x)) (cut ns xs)) out
-rows_laid f xs ns out h = sets-eq (map (λ (x : List Float). f (row_of x)) (cut ns xs)) out 0 (rw (zero-add, length-map, length_cut) h) ∙ rw zero-add
+-- the rows of groups that passed the checks
+pub rows_there : (xs : List Float) (ns : List ℕ) → Parted (length xs) ns → rows_answer xs ns ≡ rows_of (cut ns xs)
+unfolding rows_answer rows_of
+rows_there xs ns p =
+    rw (take_all 16 ns p.sizes.rows, each_group row_answer row_of row_there ns xs (omega (arith, p.sizes.adds)) p.sizes.readings p.each)

@@ -1,5 +1,5 @@
 -- The row that a group is worked into, and the rows of all groups.
-use Rattle.std.specs.Prelude.{ℕ, List, map, Float, length, replicate}
+use Rattle.std.specs.Prelude.{ℕ, List, map, Float, length, take, replicate}
 use Rattle.base.specs.declared.Refusal.{Refusal}
 use Rattle.base.specs.Limits.{most_groups}
 use Rattle.base.specs.Lists.{cut, over}
@@ -32,6 +32,10 @@ empty_rows = replicate most_groups empty_row
 -- the groups' rows, and empty rows behind them
 unfoldable pub rows_of : List (List Float) → List Row
 rows_of groups = over (map row_of groups) empty_rows
+
+-- the call: the rows of the first 16 groups, each as `row_answer` says, and empty rows behind them
+unfoldable pub rows_answer : List Float → List ℕ → List Row
+rows_answer xs ns = over (map row_answer (cut (take most_groups ns) xs)) empty_rows
 
 abbrev pub refused_stats : Refusal → GroupStats
 refused_stats r = record { refusal = r; n_groups = 0; rows = empty_rows }

@@ -3,10 +3,8 @@
 
 pub mod sound;
 
-ghost use Rattle.std.specs.Prelude.{◌≡◌, length};
-ghost use Rattle.base.specs.Lists.{cut};
-ghost use Rattle.oneway_rows.specs.Inner.{Parted};
-ghost use Rattle.oneway_rows.specs.Rows.{empty_row, row_answer, rows_of, refused_stats, validate_anova_groups};
+ghost use Rattle.std.specs.Prelude.{◌≡◌};
+ghost use Rattle.oneway_rows.specs.Rows.{empty_row, row_answer, rows_answer, refused_stats, validate_anova_groups};
 
 use base::Refusal;
 
@@ -18,7 +16,7 @@ pub struct Row {
     pub sq_dev: f64,
 }
 
-// The rows of all groups, and empty rows behind them; or a refusal.
+// The rows of all groups, and empty rows behind them; or a refusal. Document 01 fixes this record, with the refusal beside the rows.
 #[derive(Clone, Copy)]
 pub struct GroupStats {
     pub refusal: Refusal,
@@ -43,41 +41,42 @@ impl Row {
         ensures { result ≡ row_answer group.now }
     {
         let m = stats::mean(group);
-        if m.refusal.number != 0 {
-            return Row::empty();
-        }
-        let mean = m.value;
-        let d = stats::sq_dev(group, mean);
-        Row {
-            size: group.len() as u32,
-            mean: mean,
-            sq_dev: d,
+        match m.refusal.check() {
+            Ok(()) => {
+                let mean = m.value;
+                let d = stats::sq_dev(group, mean);
+                Row {
+                    size: group.len() as u32,
+                    mean,
+                    sq_dev: d,
+                }
+            }
+            Err(_) => Row::empty(),
         }
     }
 }
 
-// The rows of groups that passed the checks, and empty rows behind them.
-fn rows_of(readings: &[f64], sizes: &[u32]) -> [Row; base::MOST_GROUPS]
-    requires { Parted (length readings.now) sizes.now }
-    ensures { result ≡ rows_of (cut sizes.now readings.now) }
+// The rows of the first 16 groups, each as `Row::of` hands it out, and empty rows behind them. Where there are fewer readings than the sizes say, the last groups are shorter.
+pub fn rows_of(readings: &[f64], sizes: &[u32]) -> [Row; base::MOST_GROUPS]
+    ensures { result ≡ rows_answer readings.now sizes.now }
 {
     let mut rows = [Row::empty(); base::MOST_GROUPS];
-    let mut at = 0;
-    let mut g = 0;
-    while g < sizes.len() {
-        let end = at + sizes[g] as usize;
-        rows[g] = Row::of(&readings[at..end]);
-        at = end;
-        g += 1;
+    let k = base::MOST_GROUPS.min(sizes.len());
+    let mut rest = readings;
+    for (g, size) in sizes[..k].iter().enumerate() {
+        let (group, behind) = rest.split_at((*size as usize).min(rest.len()));
+        rows[g] = Row::of(group);
+        rest = behind;
     }
     rows
 }
 
+#[tactic(auto, unfolding(crate::specs::Rows::empty_rows))]
 fn refused(refusal: Refusal) -> GroupStats
     ensures { result ≡ refused_stats refusal }
 {
     GroupStats {
-        refusal: refusal,
+        refusal,
         n_groups: 0,
         rows: [Row::empty(); base::MOST_GROUPS],
     }
@@ -87,14 +86,12 @@ fn refused(refusal: Refusal) -> GroupStats
 pub fn validate_anova_groups(readings: &[f64], sizes: &[u32]) -> GroupStats
     ensures { result ≡ validate_anova_groups readings.now sizes.now }
 {
-    let r = oneway_checks::one_way_refusal(readings, sizes);
-    if r.number != 0 {
-        return refused(r);
-    }
-    let rows = rows_of(readings, sizes);
-    GroupStats {
-        refusal: Refusal::none(),
-        n_groups: sizes.len(),
-        rows: rows,
+    match oneway_checks::one_way_refusal(readings, sizes) {
+        Ok(()) => GroupStats {
+            refusal: Refusal::none(),
+            n_groups: sizes.len(),
+            rows: rows_of(readings, sizes),
+        },
+        Err(refusal) => refused(refusal),
     }
 }

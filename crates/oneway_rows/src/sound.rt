@@ -1,49 +1,45 @@
 // Whether rows that a caller holds are sound, so that their readings can be found: the sheet's check 13.
-ghost use Rattle.std.specs.Prelude.{◌≡◌};
-ghost use Rattle.base.specs.Limits.{fewest_readings, most_readings};
-ghost use Rattle.oneway_rows.specs.Soundness.{sizes_in, outside, unsound, sound_refusal};
+ghost use Rattle.std.specs.Prelude.{◌≡◌, ◌≤◌, ◌||◌, length, ltb};
+ghost use Rattle.std.specs.List.{list_any, sum_by};
+ghost use Rattle.base.specs.Refusals.{verdict};
+ghost use Rattle.base.specs.Limits.{most_groups, most_readings};
+ghost use Rattle.oneway_rows.specs.Soundness.{outside, sound_refusal};
+ghost use Rattle.oneway_rows.specs.Inner.{size_of, size_outside};
 
 use crate::Row;
 use base::Refusal;
 
-fn size_outside(size: u32) -> bool
-    ensures { result ≡ outside fewest_readings most_readings size }
+fn outside(low: usize, high: usize, n: usize) -> bool
+    ensures { result ≡ outside low high n }
 {
-    if (size as usize) < base::FEWEST_READINGS {
-        return true;
-    }
-    base::MOST_READINGS < size as usize
+    n < low || high < n
 }
 
-// The number of groups, each group's size, and the sum of the sizes, which cannot wrap once each size is in range.
-fn unsound(rows: [Row; base::MOST_GROUPS], k: usize) -> bool
-    ensures { result ≡ unsound k (sizes_in k rows) }
+fn any_outside(rows: &[Row]) -> bool
+    ensures { result ≡ list_any size_outside rows.now }
 {
-    if k < base::FEWEST_GROUPS {
-        return true;
-    }
-    if base::MOST_GROUPS < k {
-        return true;
-    }
-    let mut sum: u32 = 0;
-    let mut g = 0;
-    while g < k {
-        let size = rows[g].size;
-        if size_outside(size) {
-            return true;
-        }
-        sum += size;
-        g += 1;
-    }
-    base::MOST_READINGS < sum as usize
+    rows.iter().any(|row| outside(
+        base::FEWEST_READINGS,
+        base::MOST_READINGS,
+        row.size as usize,
+    ))
+}
+
+// A size outside, or a sum of more than 512. The sizes have 32 bits, so 64 cannot wrap.
+fn unsound(rows: &[Row]) -> bool
+    requires { length rows.now ≤ most_groups }
+    ensures { result ≡ (list_any size_outside rows.now || ltb most_readings (sum_by size_of rows.now)) }
+{
+    any_outside(rows)
+        || (base::MOST_READINGS as u64) < rows.iter().map(|row| row.size as u64).sum::<u64>()
 }
 
 // The check of the first k rows.
-pub fn rows_refusal(rows: [Row; base::MOST_GROUPS], k: usize) -> Refusal
-    ensures { result ≡ sound_refusal k rows }
+pub fn rows_refusal(rows: [Row; base::MOST_GROUPS], k: usize) -> Result<(), Refusal>
+    ensures { result ≡ verdict (sound_refusal k rows) }
 {
-    if unsound(rows, k) {
-        return Refusal::new(13, 0, 0);
+    if outside(base::FEWEST_GROUPS, base::MOST_GROUPS, k) || unsound(&rows[..k]) {
+        return Err(Refusal::new(13, 0, 0));
     }
-    Refusal::none()
+    Ok(())
 }

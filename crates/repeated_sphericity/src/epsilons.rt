@@ -37,35 +37,56 @@ fn gg_raw(values: &[f64], p: usize) -> f64
     1.0
 }
 
-// Greenhouse and Geisser's epsilon of the first k - 1 values. It is no NaN: the two bounds are none.
-#[tactic(auto, unfolding(crate::specs::Epsilons::epsilon_gg))]
-fn epsilon_gg(values: [f64; matrix_places::MOST_CONTRASTS], k: usize) -> f64
-    requires { (1 ≤ k) × (k ≤ most_conditions) }
-    ensures { result ≡ epsilon_gg k (take (k - 1) values) }
-{
-    let raw = gg_raw(&values[..k - 1], k - 1);
-    float::least(float::greatest(raw, 1.0 / ((k - 1) as f64)), 1.0)
+// n subjects and k conditions, of which there are three or more.
+#[derive(Clone, Copy)]
+pub struct Design {
+    pub n: usize,
+    pub k: usize,
+    ghost few_subjects: { n ≤ most_subjects },
+    ghost some_conditions: { 3 ≤ k },
+    ghost few_conditions: { k ≤ most_conditions },
 }
 
-// The epsilon of the matrix, k - 1 rows of k - 1 places.
-#[tactic(auto, unfolding(crate::specs::Corrections::gg_of))]
-pub fn gg_of(csc: [f64; matrix_places::SQUARE], k: usize) -> f64
-    requires { (1 ≤ k) × (k ≤ most_conditions) }
-    ensures { result ≡ gg_of k csc }
-{
-    let found = values(csc, k - 1);
-    epsilon_gg(found, k)
-}
+impl Design {
+    // Greenhouse and Geisser's epsilon of the first k - 1 values. It is no NaN: the two bounds are none.
+    #[tactic(auto, unfolding(crate::specs::Epsilons::epsilon_gg))]
+    fn epsilon_gg(self, values: [f64; matrix_places::MOST_CONTRASTS]) -> f64
+        ensures { result ≡ epsilon_gg self.k (take (self.k - 1) values) }
+    {
+        let p = self.k - 1;
+        let raw = gg_raw(&values[..p], p);
+        float::least(float::greatest(raw, 1.0 / (p as f64)), 1.0)
+    }
 
-// Huynh and Feldt's estimate from the epsilon e.
-#[tactic(auto, unfolding(crate::specs::Epsilons::hf_raw))]
-fn hf_raw(n: usize, k: usize, e: f64) -> f64
-    requires { (n ≤ most_subjects) × (k ≤ most_conditions) }
-    ensures { result ≡ hf_raw n k e }
-{
-    let subjects = n as f64;
-    let p = k as f64 - 1.0;
-    (subjects * p * e - 2.0) / (p * (subjects - 1.0 - p * e))
+    // The epsilon of the matrix, k - 1 rows of k - 1 places.
+    #[tactic(auto, unfolding(crate::specs::Corrections::gg_of))]
+    pub fn gg_of(self, csc: [f64; matrix_places::SQUARE]) -> f64
+        ensures { result ≡ gg_of self.k csc }
+    {
+        self.epsilon_gg(values(csc, self.k - 1))
+    }
+
+    // Huynh and Feldt's estimate from the epsilon e.
+    #[tactic(auto, unfolding(crate::specs::Epsilons::hf_raw))]
+    fn hf_raw(self, e: f64) -> f64
+        ensures { result ≡ hf_raw self.n self.k e }
+    {
+        let subjects = self.n as f64;
+        let p = self.k as f64 - 1.0;
+        (subjects * p * e - 2.0) / (p * (subjects - 1.0 - p * e))
+    }
+
+    // Huynh and Feldt's epsilon. Where the estimate cannot be used, it is e as it came.
+    #[tactic(auto, unfolding(crate::specs::Epsilons::epsilon_hf))]
+    pub fn epsilon_hf(self, e: f64) -> f64
+        ensures { result ≡ epsilon_hf self.n self.k e }
+    {
+        let hf = self.hf_raw(e);
+        if usable(hf) {
+            return float::least(hf, 1.0);
+        }
+        e
+    }
 }
 
 // Whether an estimate is finite and above 0.
@@ -74,17 +95,4 @@ fn usable(hf: f64) -> bool
     ensures { result ≡ usable hf }
 {
     float::is_finite(hf) && hf > 0.0
-}
-
-// Huynh and Feldt's epsilon. Where the estimate cannot be used, it is e as it came.
-#[tactic(auto, unfolding(crate::specs::Epsilons::epsilon_hf))]
-pub fn epsilon_hf(n: usize, k: usize, e: f64) -> f64
-    requires { (n ≤ most_subjects) × (k ≤ most_conditions) }
-    ensures { result ≡ epsilon_hf n k e }
-{
-    let hf = hf_raw(n, k, e);
-    if usable(hf) {
-        return float::least(hf, 1.0);
-    }
-    e
 }

@@ -6,8 +6,8 @@ mod mauchly;
 
 ghost use Rattle.std.specs.Prelude.{◌≡◌};
 ghost use Rattle.repeated_sphericity.specs.Corrections.{corrected, corrections_of, compute_sphericity_corrections};
-ghost use Rattle.repeated_sphericity.specs.Inner.{Taken};
 
+use epsilons::Design;
 use mauchly::Csc;
 use results::{CorrectedResult, Corrections};
 
@@ -26,22 +26,20 @@ fn corrected(f_stat: f64, df_num: f64, df_den: f64, epsilon: f64) -> CorrectedRe
 // Everything, from C S C'.
 #[tactic(auto, unfolding(crate::specs::Corrections::corrections_of))]
 fn corrections_of(
+    design: Design,
     csc: [f64; matrix_places::SQUARE],
-    n: usize,
-    k: usize,
     f_stat: f64,
     df_num: f64,
     df_den: f64,
 ) -> Corrections
-    requires { Taken n k }
-    ensures { result ≡ corrections_of n k csc f_stat df_num df_den }
+    ensures { result ≡ corrections_of design.n design.k csc f_stat df_num df_den }
 {
-    let gg = epsilons::gg_of(csc, k);
-    let hf = epsilons::epsilon_hf(n, k, gg);
+    let gg = design.gg_of(csc);
+    let hf = design.epsilon_hf(gg);
     Corrections {
         sphericity: Csc {
             places: csc,
-            p: k - 1,
+            p: design.k - 1,
         }
         .sphericity(),
         greenhouse_geisser: corrected(f_stat, df_num, df_den, gg),
@@ -67,7 +65,7 @@ pub fn compute_sphericity_corrections(
     }
     let mut csc = [0.0; matrix_places::SQUARE];
     if repeated_contrasts::contrast_covariance(readings, means, n, k, &mut csc) {
-        return corrections_of(csc, n, k, f_stat, df_num, df_den);
+        return corrections_of(Design { n, k }, csc, f_stat, df_num, df_den);
     }
     results::no_corrections()
 }

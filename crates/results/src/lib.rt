@@ -32,12 +32,13 @@ pub struct OneWayAnovaResult {
     pub grand_mean: f64,
 }
 
-// The answer that carries a refusal alone.
+// The answer that carries a refusal alone. This and the other answers of zeros are written out field by field: must-fail edits change single fields of them.
+#[tactic(auto, unfolding(crate::specs::Results::no_sizes, crate::specs::Results::no_means))]
 pub fn refused(refusal: Refusal) -> OneWayAnovaResult
     ensures { result ≡ refused_result refusal }
 {
     OneWayAnovaResult {
-        refusal: refusal,
+        refusal,
         statistic: 0.0,
         df_between: 0.0,
         df_within: 0.0,
@@ -75,7 +76,7 @@ pub fn effect_row(ss: f64, df: f64, ms_error: f64) -> AnovaTableRow
     AnovaTableRow {
         ss: float::canon(ss),
         df: float::canon(df),
-        ms: ms,
+        ms,
         has_f: true,
         f: float::canon(ms / ms_error),
     }

@@ -7,7 +7,7 @@ use native.Mathlib.Omega.{arith}
 use mathlib.Core.Bool.{Bool, true, false, not}
 use mathlib.Core.Logic.{◌⊎◌, inl, inr}
 use lib.Dec.{T, ltb, ltb→lt, nltb→le}
-use lib.Count.{count_leading_zeros, leading_top}
+use lib.Count.{count_leading_zeros, leading_top, leading_le}
 use lib.Pow.{pow-add, pow_pos, pow_mono}
 use borrow.Author.Tests.{lt-ltb, le-ltb}
 use Rattle.root.specs.Root.{lead, significand, exponent, radicand, isqrt, root_bits}
@@ -160,3 +160,7 @@ shifted b m h p e f =
 
 pub found : (b x r : ℕ) → 0 < b → x ≡ radicand b → IsFloor (x * 18014398509481984) r → r ≡ long b
 found b x r p e f = floor_unique (radicand b * 18014398509481984) r (long b) (subst (λ (y : ℕ). IsFloor (y * 18014398509481984) r) e f) (long_floor b p)
+
+-- at most 64 zeros lead
+pub leads : (b : ℕ) → count_leading_zeros 64 b ≤ 64
+leads b = leading_le 64 b

@@ -8,10 +8,11 @@ use lib.Dec.{ltb, eqb}
 use lib.Ieee.{Float}
 use lib.ListN.{length, take, drop, length-map, length-append, length-drop}
 use lib.Seq.{take_at}
+use Rattle.std.specs.Prelude.{Result, Ok, Err}
 use Rattle.base.specs.declared.Refusal.{Refusal}
 use Rattle.base.specs.Lists.{total, words}
 use Rattle.base.specs.Refusals.{refuse, none, when}
-use Rattle.base.proofs.Order.{both_passed, no_fault, needed_there, told, told_which, passed_answer, answers_numbers}
+use Rattle.base.proofs.Order.{both_passed, no_fault, needed_there, answers_numbers, refused_answer, judged_refused, judged_passed, was_passed, was_refused}
 use Rattle.base.proofs.Parts.{rest_part}
 use Rattle.base.proofs.Words.{length_words}
 use Rattle.oneway.specs.declared.AnovaKind.{AnovaKind}
@@ -21,7 +22,7 @@ use Rattle.oneway.specs.Anova.{one_way_anova}
 use Rattle.set.specs.declared.Contents.{Contents}
 use Rattle.set.specs.declared.ReadingSet.{ReadingSet}
 use Rattle.set.specs.Bytes.{little, reading}
-use Rattle.set.specs.Sets.{group_count, contents_length, set_length, set_sizes, set_readings, set_refusal, set_of, refused_set, read_set, set_anova}
+use Rattle.set.specs.Sets.{group_count, contents_length, set_length, set_sizes, set_readings, set_refusal, set_of, read_set, set_anova}
 use Rattle.set.specs.Inner.{contents_of, body_of}
 
 pub record Headed (bs : List ℕ) : Type 0 where
@@ -88,39 +89,47 @@ sizes_count bs = length-map (words 2 (group_count bs) (drop 2 bs)) little ∙ le
 pub readings_count : (bs : List ℕ) → length (set_readings bs) ≡ total (set_sizes bs)
 readings_count bs = length-map (words 8 (total (set_sizes bs)) (drop (contents_length bs) bs)) reading ∙ length_words 8 (total (set_sizes bs)) (drop (contents_length bs) bs)
 
+-- the sum of the sizes that the code reads behind the count
+pub counted : (bs : List ℕ) (k : ℕ) {c : Contents} → c ≡ contents_of (map little (words 2 k (take (length bs - 2) (drop 2 bs)))) → c.total ≡ total (map little (words 2 k (drop 2 bs)))
+counted bs k e = ap (λ (t : Contents). t.total) e ∙ ap (λ (l : List ℕ). total (map little (words 2 k l))) (rest_part 2 bs)
+
+-- what the code answers at a check that found this fault
+pub fails : (bs : List ℕ) {r q : Refusal} → r ≡ q → q ≡ set_refusal bs → (q.number ≡ 0 → ⊥) → Err r ≡ read_set bs
+unfolding read_set
+fails bs {r} {q} e f n = rw (e, ← f) (sym (judged_refused q (set_of (set_sizes bs) (set_readings bs)) n))
+
 -- a set that passed, from what the code reads of it: k the count, c the contents
-module _ (bs : List ℕ) (z : (set_refusal bs).number ≡ 0) (k : ℕ) (ek : k ≡ group_count bs) (c : Contents) (ec : c ≡ contents_of (map little (words 2 k (take (length bs - 2) (drop 2 bs))))) where
+module _ (bs : List ℕ) (z : none ≡ set_refusal bs) (k : ℕ) (ek : k ≡ group_count bs) (c : Contents) (ec : c ≡ contents_of (map little (words 2 k (take (length bs - 2) (drop 2 bs))))) where
   contents_read : c ≡ contents_of (set_sizes bs)
   contents_read = rw (ec, rest_part 2 bs, ek)
 
   pub body_fits : (c.total ≤ 512) × (c.total * 8 ≤ length (take (length bs - (2 + k * 2)) (drop (2 + k * 2) bs)))
   body_fits =
-      let h = headed bs z in
+      let h = headed bs (ap (λ (r : Refusal). r.number) (sym z)) in
       let t : c.total ≡ total (set_sizes bs) = ap (λ (d : Contents). d.total) contents_read in
       (rw t h.readings, rw (rest_part (2 + k * 2) bs, length-drop) (omega (arith, h.exact)))
 
   pub set_made : (xs : List Float) → xs ≡ body_of (map reading (words 8 c.total (take (length bs - (2 + k * 2)) (drop (2 + k * 2) bs))))
-      → record { refusal = none; n_groups = k; n_total = c.total; sizes = c.sizes; readings = xs } ≡ read_set bs
+      → Ok (record { n_groups = k; n_total = c.total; sizes = c.sizes; readings = xs }) ≡ read_set bs
   unfolding read_set
-  set_made xs q = answers_numbers (set_refusal bs) refused_set _ refl z (rw (q, rest_part (2 + k * 2) bs, contents_read, ek, sizes_count bs, readings_count bs))
-
-abbrev refusal_in : ReadingSet → Refusal
-refusal_in s = s.refusal
+  set_made xs q = rw (← z, q, rest_part (2 + k * 2) bs, contents_read, ek, sizes_count bs, readings_count bs)
 
 -- what a caller of `read_set` knows of its answer
-module _ (bs : List ℕ) (s : ReadingSet) (e : s ≡ read_set bs) where
-  pub which : (s.refusal.number ≡ 0 → ⊥) → s.refusal ≡ set_refusal bs
-  unfolding read_set
-  which n = told_which (set_refusal bs) refused_set (set_of (set_sizes bs) (set_readings bs)) refusal_in (λ r. refl) refl e n
+module _ (bs : List ℕ) {v : Result ReadingSet Refusal} (e : v ≡ read_set bs) (kind : AnovaKind) where
+  pub set_refused : {r : Refusal} → v ≡ Err r → refused_result r ≡ set_anova kind bs
+  unfolding read_set set_anova
+  set_refused f =
+      let w = was_refused (set_refusal bs) (set_of (set_sizes bs) (set_readings bs)) e f in
+      rw (← w.0) (sym (refused_answer (set_refusal bs) refused_result _ w.1))
 
-  module _ (z : s.refusal.number ≡ 0) where
-    pub passes : (set_refusal bs).number ≡ 0
+  module _ {s : ReadingSet} (f : v ≡ Ok s) where
+    passes : (set_refusal bs).number ≡ 0
     unfolding read_set
-    passes = sym (told (set_refusal bs) refused_set (set_of (set_sizes bs) (set_readings bs)) refusal_in (λ r. refl) refl e) ∙ z
+    passes = was_passed (set_refusal bs) (set_of (set_sizes bs) (set_readings bs)) e f
 
     set_is : s ≡ set_of (set_sizes bs) (set_readings bs)
     unfolding read_set
-    set_is = e ∙ passed_answer (set_refusal bs) refused_set (set_of (set_sizes bs) (set_readings bs)) passes
+    set_is = ap (λ (x : Result ReadingSet Refusal). elim x [ Ok t ↦ t | Err r ↦ s ]) (sym f ∙ e ∙ judged_passed (set_refusal bs) (set_of (set_sizes bs) (set_readings bs)) passes)
 
     -- the parts in use lie within the arrays
     pub groups_fit : s.n_groups ≤ length s.sizes
@@ -129,12 +138,12 @@ module _ (bs : List ℕ) (s : ReadingSet) (e : s ≡ read_set bs) where
     pub readings_fit : s.n_total ≤ length s.readings
     readings_fit = rw (set_is, length-append) (omega arith)
 
-    pub sizes_in_use : take s.n_groups s.sizes ≡ set_sizes bs
+    sizes_in_use : take s.n_groups s.sizes ≡ set_sizes bs
     sizes_in_use = rw set_is (take_at (set_sizes bs) _ (length (set_sizes bs)) refl)
 
-    pub readings_in_use : take s.n_total s.readings ≡ set_readings bs
+    readings_in_use : take s.n_total s.readings ≡ set_readings bs
     readings_in_use = rw set_is (take_at (set_readings bs) _ (length (set_readings bs)) refl)
 
-    pub analysed : (kind : AnovaKind) {x : OneWayAnovaResult} → x ≡ one_way_anova kind (take s.n_total s.readings) (take s.n_groups s.sizes) → x ≡ set_anova kind bs
+    pub analysed : {x : OneWayAnovaResult} → x ≡ one_way_anova kind (take s.n_total s.readings) (take s.n_groups s.sizes) → x ≡ set_anova kind bs
     unfolding set_anova
-    analysed kind p = answers_numbers (set_refusal bs) refused_result _ refl passes (rw (readings_in_use, sizes_in_use) at p)
+    analysed p = answers_numbers (set_refusal bs) refused_result _ refl passes (rw (readings_in_use, sizes_in_use) at p)

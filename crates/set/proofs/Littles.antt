@@ -1,65 +1,83 @@
--- Laws of numbers in bytes: read from the end, and how large they are.
+-- Laws of numbers in bytes: as the library reads and writes them, and how large they are.
 use mathlib.Core.Path.{◌≡◌, refl, ◌∙◌, ap}
 use mathlib.Core.List.{List, [], ◌∷◌, map}
-use Prim.Native.Nat.{ℕ, zero, suc, ◌+◌, ◌-◌, ◌*◌, ◌/◌, ◌%◌, ◌^◌, ◌<◌, ◌≤◌}
+use Prim.Native.Nat.{ℕ, zero, suc, ◌+◌, ◌*◌, ◌/◌, ◌<◌, ◌≤◌}
 use native.Mathlib.Omega.{arith}
-use native.Mathlib.Nat.{add-sub_cancel_left}
-use native.Mathlib.Numerals.{add-one}
-use lib.ListN.{length, drop, take, get_or, set, length-drop, length-map, get_or-map}
-use lib.Seq.{drop-cons, get_or-drop, sets}
-use Rattle.base.specs.Lists.{total, words}
+use native.Mathlib.Nat.{div-div-eq-div-mul}
+use lib.ListN.{length, drop, take, get_or, length-drop, length-map, get_or-map}
+use lib.Seq.{length-take-le}
+use Rattle.base.specs.Lists.{total, cut, words}
 use Rattle.base.proofs.Cuts.{total_turn}
-use Rattle.base.proofs.Runs.{sets_over, over_all}
 use Rattle.base.proofs.Words.{word_at, length_words}
+use Rattle.base.proofs.Bounds.{row_end}
+use Rattle.std.specs.Int.{w16, w64, from_le_bytes, to_le_bytes}
+use Rattle.std.specs.Simd.{first_chunks}
+use Rattle.std.proofs.lemmas.List.{get_or_default}
 use Rattle.set.specs.Bytes.{little, bytes}
 
--- the byte before a place, and the number from there
-pub little_prev : (bs : List ℕ) (i : ℕ) → 0 < i → i ≤ length bs → little (drop (i - 1) bs) ≡ get_or bs (i - 1) 0 + 256 * little (drop i bs)
+-- the chunks that the code takes are the words
+first_words : (w m k : ℕ) (bs : List ℕ) → k ≤ m → take k (first_chunks w m bs) ≡ words w k bs
+unfolding cut
+first_words w m zero bs h = refl
+first_words w zero (suc k) bs h = absurd (omega arith)
+first_words w (suc m) (suc k) bs h = ap (λ (r : List (List ℕ)). take w bs ∷ r) (first_words w m k (drop w bs) (omega arith))
+
+pub chunks_are : (w m k : ℕ) (bs : List ℕ) {cs : List (List ℕ)} → cs ≡ first_chunks w m bs → k ≤ m → take k cs ≡ words w k bs
+chunks_are w m k bs e l = ap (take k) e ∙ first_words w m k bs l
+
+-- two bytes, and eight, as the library reads them
+pub pair_is : (bs : List ℕ) → length bs ≡ 2 → from_le_bytes w16 bs ≡ little bs
 unfolding little
-little_prev bs i p h =
-    let e : suc (i - 1) ≡ i = omega arith in
-    ap little (drop-cons bs (i - 1) 0 (omega arith)) ∙ ap (λ (k : ℕ). get_or bs (i - 1) 0 + 256 * little (drop k bs)) e
+pair_is [] e = absurd (omega arith)
+pair_is (a ∷ []) e = absurd (omega arith)
+pair_is (a ∷ b ∷ []) e = omega arith
+pair_is (a ∷ b ∷ c ∷ bs) e = absurd (omega arith)
 
--- 256 to the k
-unfoldable room : ℕ → ℕ
-room zero = 1
-room (suc k) = 256 * room k
+pub eight_is : (bs : List ℕ) → length bs ≡ 8 → from_le_bytes w64 bs ≡ little bs
+unfolding little
+eight_is ([]) p = absurd (omega arith)
+eight_is (a ∷ []) p = absurd (omega arith)
+eight_is (a ∷ b ∷ []) p = absurd (omega arith)
+eight_is (a ∷ b ∷ c ∷ []) p = absurd (omega arith)
+eight_is (a ∷ b ∷ c ∷ d ∷ []) p = absurd (omega arith)
+eight_is (a ∷ b ∷ c ∷ d ∷ e ∷ []) p = absurd (omega arith)
+eight_is (a ∷ b ∷ c ∷ d ∷ e ∷ f ∷ []) p = absurd (omega arith)
+eight_is (a ∷ b ∷ c ∷ d ∷ e ∷ f ∷ g ∷ []) p = absurd (omega arith)
+eight_is (a ∷ b ∷ c ∷ d ∷ e ∷ f ∷ g ∷ h ∷ []) p = omega arith
+eight_is (a ∷ b ∷ c ∷ d ∷ e ∷ f ∷ g ∷ h ∷ i ∷ bs) p = absurd (omega arith)
 
-abbrev pub Bytes : List ℕ → Type 0
-Bytes bs = (j : ℕ) → get_or bs j 0 < 256
+-- the first two bytes
+pub two_first : (bs : List ℕ) {n : ℕ} → 2 ≤ length bs → n ≡ from_le_bytes w16 (get_or bs 0 0 ∷ get_or bs 1 0 ∷ []) → n ≡ little (take 2 bs)
+two_first [] h e = absurd (omega arith)
+two_first (a ∷ []) h e = absurd (omega arith)
+two_first (a ∷ b ∷ bs) h e = e ∙ pair_is (a ∷ b ∷ []) refl
 
-under_room : (bs : List ℕ) (k : ℕ) → Bytes bs → length bs ≤ k → little bs < room k
-unfolding little room
-under_room [] zero small h = omega arith
-under_room [] (suc k) small h = omega (arith, under_room [] k small (omega arith))
-under_room (b ∷ bs) zero small h = absurd (omega arith)
-under_room (b ∷ bs) (suc k) small h = omega (arith, small 0, under_room bs k (λ j. small (suc j)) (omega arith))
-
-pub little_fits : (bs : List ℕ) (i : ℕ) → Bytes bs → length bs ≤ 8 → little (drop i bs) < 2 ^ 64
-unfolding room
-little_fits bs i small h = under_room (drop i bs) 8 (λ j. rw get_or-drop (small (i + j))) (simp length-drop (omega arith))
-
-bytes_take : (n : ℕ) (bs : List ℕ) → Bytes bs → Bytes (take n bs)
-bytes_take zero bs small j = omega arith
-bytes_take (suc n) [] small j = small j
-bytes_take (suc n) (b ∷ bs) small zero = small zero
-bytes_take (suc n) (b ∷ bs) small (suc j) = bytes_take n bs (λ i. small (suc i)) j
-
--- two bytes stand for less than 65,536
-pub little_two : (at : ℕ) (bs : List ℕ) → Bytes bs → length (take 2 (drop at bs)) ≤ 2 → little (take 2 (drop at bs)) < 65536
-unfolding room
-little_two at bs small h = under_room (take 2 (drop at bs)) 2 (bytes_take 2 (drop at bs) (λ j. rw get_or-drop (small (at + j)))) h
-
--- the word that the code reads at g, and the numbers from g on
+-- the numbers from g on
 module _ (w k : ℕ) (bs : List ℕ) (g : ℕ) (h : g < k) where
-  pub word_here : take (g * w + w - g * w) (drop (g * w) bs) ≡ get_or (words w k bs) g []
-  word_here = rw (word_at w k bs g h, add-sub_cancel_left)
-
   pub numbers_turn : total (drop g (map little (words w k bs))) ≡ little (get_or (words w k bs) g []) + total (drop (g + 1) (map little (words w k bs)))
   unfolding little
   numbers_turn =
       total_turn (map little (words w k bs)) g (rw (length-map, length_words w k bs) h)
       ∙ ap (λ (n : ℕ). n + total (drop (g + 1) (map little (words w k bs)))) (get_or-map little (words w k bs) g [])
+
+  -- the word at g has all its bytes where there are enough
+  pub word_long : k * w ≤ length bs → length (get_or (words w k bs) g []) ≡ w
+  word_long fits = let r = row_end g k w h fits in rw (word_at w k bs g h) (length-take-le w (drop (g * w) bs) (rw length-drop (omega (arith, r))))
+
+-- the number that the code reads of the word at g
+module _ (w m k : ℕ) (bs : List ℕ) {cs : List (List ℕ)} (e : cs ≡ first_chunks w m bs) (l : k ≤ m) (g : ℕ) (h : g < length (take k cs)) where
+  pub among : g < k
+  among = rw (chunks_are w m k bs e l, length_words w k bs) at h
+
+  word_is : (d : List ℕ) → get_or (take k cs) g d ≡ get_or (words w k bs) g []
+  word_is d = get_or_default (take k cs) g d [] h ∙ ap (λ (ws : List (List ℕ)). get_or ws g []) (chunks_are w m k bs e l)
+
+module _ (m k : ℕ) (bs : List ℕ) {cs : List (List ℕ)} where
+  pub pair_read : cs ≡ first_chunks 2 m bs → k ≤ m → k * 2 ≤ length bs → (g : ℕ) → g < length (take k cs) → {n : ℕ} (d : List ℕ) → n ≡ from_le_bytes w16 (get_or (take k cs) g d) → n ≡ little (get_or (words 2 k bs) g [])
+  pair_read e l f g h d q = q ∙ ap (from_le_bytes w16) (word_is 2 m k bs e l g h d) ∙ pair_is _ (word_long 2 k bs g (among 2 m k bs e l g h) f)
+
+  pub eight_read : cs ≡ first_chunks 8 m bs → k ≤ m → k * 8 ≤ length bs → (g : ℕ) → g < length (take k cs) → {n : ℕ} (d : List ℕ) → n ≡ from_le_bytes w64 (get_or (take k cs) g d) → n ≡ little (get_or (words 8 k bs) g [])
+  eight_read e l f g h d q = q ∙ ap (from_le_bytes w64) (word_is 8 m k bs e l g h d) ∙ eight_is _ (word_long 8 k bs g (among 8 m k bs e l g h) f)
 
 -- a number written byte by byte: one byte, and the end
 pub length_bytes : (k w : ℕ) → length (bytes k w) ≡ k
@@ -67,18 +85,7 @@ unfolding bytes
 length_bytes zero w = refl
 length_bytes (suc k) w = ap suc (length_bytes k (w / 256))
 
-module _ (out : List ℕ) (i rest : ℕ) where
-  pub byte_turn : {whole : List ℕ} → sets out i (bytes (8 - i) rest) ≡ whole → i < 8 → sets (set out i (rest % 256)) (i + 1) (bytes (8 - (i + 1)) (rest / 256)) ≡ whole
-  unfolding bytes
-  byte_turn e h =
-      let k : 8 - i ≡ suc (8 - (i + 1)) = omega arith in
-      rw add-one (rw (k, add-one) at e)
-
-  pub bytes_done : {whole : List ℕ} → sets out i (bytes (8 - i) rest) ≡ whole → 8 ≤ i → out ≡ whole
-  unfolding bytes
-  bytes_done e h = let k : 8 - i ≡ 0 = omega arith in rw k at e
-
-pub bytes_laid : (zs : List ℕ) (w : ℕ) → length zs ≡ 8 → sets zs 0 (bytes 8 w) ≡ bytes 8 w
-bytes_laid zs w l =
-    let n = length_bytes 8 w in
-    sets_over (bytes 8 w) zs (omega arith) ∙ over_all (bytes 8 w) zs (omega arith)
+-- the library writes a number as the definition does
+pub bytes_are : (w : ℕ) {bs : List ℕ} → bs ≡ to_le_bytes w64 w → bs ≡ bytes 8 w
+unfolding bytes
+bytes_are w e = e ∙ simp div-div-eq-div-mul refl

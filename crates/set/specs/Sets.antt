@@ -1,9 +1,9 @@
 -- What a reading set says, and which sets are refused. bs are the bytes.
-use Rattle.std.specs.Prelude.{ℕ, ◌+◌, ◌*◌, List, map, ltb, eqb, Float, length, take, drop, replicate}
+use Rattle.std.specs.Prelude.{ℕ, ◌+◌, ◌*◌, List, map, ltb, eqb, Float, length, take, drop, replicate, Result}
 use Rattle.base.specs.declared.Refusal.{Refusal}
 use Rattle.base.specs.Limits.{most_groups, most_readings}
 use Rattle.base.specs.Lists.{total, over, words}
-use Rattle.base.specs.Refusals.{refuse, none, when, unless, ◌or_else◌, guarded}
+use Rattle.base.specs.Refusals.{refuse, when, unless, ◌or_else◌, guarded, judged}
 use Rattle.float.specs.Words.{plus_zero}
 use Rattle.oneway.specs.declared.AnovaKind.{AnovaKind}
 use Rattle.results.specs.declared.OneWayAnovaResult.{OneWayAnovaResult}
@@ -48,15 +48,12 @@ set_refusal bs =
 unfoldable pub no_readings : List Float
 no_readings = replicate most_readings plus_zero
 
-abbrev pub refused_set : Refusal → ReadingSet
-refused_set r = record { refusal = r; n_groups = 0; n_total = 0; sizes = no_sizes; readings = no_readings }
-
 abbrev pub set_of : List ℕ → List Float → ReadingSet
-set_of ns xs = record { refusal = none; n_groups = length ns; n_total = length xs; sizes = over ns no_sizes; readings = over xs no_readings }
+set_of ns xs = record { n_groups = length ns; n_total = length xs; sizes = over ns no_sizes; readings = over xs no_readings }
 
 -- a set that is read
-unfoldable pub read_set : List ℕ → ReadingSet
-read_set bs = guarded (set_refusal bs) refused_set (set_of (set_sizes bs) (set_readings bs))
+unfoldable pub read_set : List ℕ → Result ReadingSet Refusal
+read_set bs = judged (set_refusal bs) (set_of (set_sizes bs) (set_readings bs))
 
 -- a set that is analysed: the set's checks, then one-way's
 unfoldable pub set_anova : AnovaKind → List ℕ → OneWayAnovaResult

@@ -15,9 +15,8 @@ use Rattle.base.proofs.Firsts.{take_firsts}
 use Rattle.oneway_rows.specs.declared.Row.{Row}
 use Rattle.oneway_rows.specs.Rows.{row_of, row_answer}
 use Rattle.oneway_rows.specs.Soundness.{sizes_in}
-use Rattle.oneway_rows.proofs.Counted.{Sound, unread, length_sizes, size_at}
+use Rattle.oneway_rows.proofs.Counted.{unread, length_sizes, size_at}
 use Rattle.oneway_rows.proofs.Laid.{row_there}
-use Rattle.oneway.specs.Inner.{Small}
 use Rattle.sheet.specs.declared.Sheet.{Sheet}
 use Rattle.sheet.specs.Sheets.{sizes_of, groups_of, edited}
 use Rattle.sheet.proofs.Judged.{Open}
@@ -33,10 +32,6 @@ module _ (k : ℕ) (rows : List Row) (n : ℕ) (h : n ≤ k) where
 
   ahead_less : total (sizes_in n rows) ≤ total (sizes_in k rows)
   ahead_less = rw (← first_sizes) (omega (arith, total_split (sizes_in k rows) n))
-
-  -- so that the readings ahead of a group can be counted
-  pub small_ahead : Sound k rows → Small n rows
-  small_ahead s = record { groups = omega (arith, s.high); readings = omega (arith, ahead_less, s.fits) }
 
 -- what an edit knows of its group g and of the place p in it
 pub record Found (s : Sheet) (g p : ℕ) : Type 0 where

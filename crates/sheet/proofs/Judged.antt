@@ -1,5 +1,5 @@
 -- What the checks before an edit say of the rows, and what they leave known where they are passed.
-use mathlib.Core.Path.{◌≡◌, refl, sym, ap}
+use mathlib.Core.Path.{◌≡◌, refl, sym, ap, ◌∙◌}
 use mathlib.Core.Bool.{false}
 use mathlib.Core.List.{List, [], ◌∷◌}
 use Prim.Native.Nat.{ℕ, zero, suc, ◌+◌, ◌<◌, ◌≤◌}
@@ -8,15 +8,18 @@ use native.Mathlib.Omega.{arith}
 use borrow.Author.Tests.{le-leb, lt-leb, leb-false, eqb-false}
 use lib.Dec.{leb}
 use lib.Ieee.{Float, is_nan}
-use lib.ListN.{length, get_or, get_or-eq_default}
+use lib.ListN.{length, get_or, take, get_or-eq_default}
 use Rattle.base.specs.declared.Refusal.{Refusal}
 use Rattle.base.specs.Lists.{total}
-use Rattle.base.specs.Refusals.{refuse, none, ◌or_else◌}
-use Rattle.base.proofs.Faults.{checks_in_order, stops_there, goes_beyond}
-use Rattle.base.proofs.Order.{both_passed, no_fault}
+use Rattle.base.specs.Refusals.{refuse, none, verdict, ◌or_else◌}
+use Rattle.std.specs.Prelude.{Result, Ok, Err, ⊤}
+use Rattle.std.specs.List.{sum_by}
+use Rattle.oneway_rows.specs.Inner.{size_of}
+use Rattle.base.proofs.Faults.{checks_in_order}
+use Rattle.base.proofs.Order.{both_passed, no_fault, asks_next}
 use Rattle.oneway_rows.specs.declared.Row.{Row}
 use Rattle.oneway_rows.specs.Soundness.{sizes_in, sound_refusal}
-use Rattle.oneway_rows.proofs.Counted.{Sound, unread, length_sizes, size_at, sound, sound_passes, inside_at}
+use Rattle.oneway_rows.proofs.Counted.{Sound, unread, length_sizes, size_at, sound, sound_passes, inside_at, sizes_added}
 use Rattle.sheet.specs.Calls.{Call, Replace, Append, Remove, no_place, new_nan, full, last_two, judge, refusal_of, target}
 
 module _ (k : ℕ) (rows : List Row) (g p : ℕ) where
@@ -101,43 +104,29 @@ asked c k rows z =
     let q = both_passed (sound_refusal k rows) (judge c (sizes_in k rows)) z in
     (sound k rows q.0, q.1)
 
--- r is what the checks 13 and 14 said: an edit stops there, or goes on to its own
-module _ (k : ℕ) (rows : List Row) (g p : ℕ) {r : Refusal} (e : r ≡ (sound_refusal k rows or_else no_place g p (sizes_in k rows))) where
-  module _ (n : r.number ≡ 0 → ⊥) where
-    pub replace_stops : (x : Float) → r ≡ refusal_of (Replace g p x) k rows
-    unfolding refusal_of judge
-    replace_stops x = stops_there (sound_refusal k rows) (no_place g p (sizes_in k rows)) (new_nan g x) e n
-
-    pub remove_stops : r ≡ refusal_of (Remove g p) k rows
-    unfolding refusal_of judge
-    remove_stops = stops_there (sound_refusal k rows) (no_place g p (sizes_in k rows)) (last_two g (sizes_in k rows)) e n
-
-  module _ (z : r.number ≡ 0) {q : Refusal} where
-    pub replace_goes_on : (x : Float) → q ≡ new_nan g x → q ≡ refusal_of (Replace g p x) k rows
-    unfolding refusal_of judge
-    replace_goes_on x f = goes_beyond (sound_refusal k rows) (no_place g p (sizes_in k rows)) (new_nan g x) e z f
-
-    pub remove_goes_on : q ≡ last_two g (sizes_in k rows) → q ≡ refusal_of (Remove g p) k rows
-    unfolding refusal_of judge
-    remove_goes_on f = goes_beyond (sound_refusal k rows) (no_place g p (sizes_in k rows)) (last_two g (sizes_in k rows)) e z f
-
--- an append goes on from what a replacement of the group's first reading would be told
-module _ (k : ℕ) (rows : List Row) (g : ℕ) (x : Float) {r : Refusal} (e : r ≡ refusal_of (Replace g 0 x) k rows) where
-  append_order : refusal_of (Append g x) k rows ≡ (sound_refusal k rows or_else (judge (Replace g 0 x) (sizes_in k rows) or_else full (sizes_in k rows)))
+-- the order in which the code asks: the checks 13 and 14 first, and then the edit's own; an append asks what a replacement of the group's first reading would be told
+module _ (k : ℕ) (rows : List Row) (g : ℕ) where
+  pub replace_order : (p : ℕ) (x : Float) → refusal_of (Replace g p x) k rows ≡ ((sound_refusal k rows or_else no_place g p (sizes_in k rows)) or_else new_nan g x)
   unfolding refusal_of judge
-  append_order = ap (λ (q : Refusal). sound_refusal k rows or_else q) (sym (checks_in_order (no_place g 0 (sizes_in k rows)) (new_nan g x) (full (sizes_in k rows))))
+  replace_order p x = sym (checks_in_order (sound_refusal k rows) (no_place g p (sizes_in k rows)) (new_nan g x))
 
-  pub append_stops : (r.number ≡ 0 → ⊥) → r ≡ refusal_of (Append g x) k rows
-  unfolding refusal_of
-  append_stops n = rw append_order (stops_there (sound_refusal k rows) (judge (Replace g 0 x) (sizes_in k rows)) (full (sizes_in k rows)) e n)
+  pub remove_order : (p : ℕ) → refusal_of (Remove g p) k rows ≡ ((sound_refusal k rows or_else no_place g p (sizes_in k rows)) or_else last_two g (sizes_in k rows))
+  unfolding refusal_of judge
+  remove_order p = sym (checks_in_order (sound_refusal k rows) (no_place g p (sizes_in k rows)) (last_two g (sizes_in k rows)))
 
-  pub append_goes_on : r.number ≡ 0 → {q : Refusal} → q ≡ full (sizes_in k rows) → q ≡ refusal_of (Append g x) k rows
-  unfolding refusal_of
-  append_goes_on z f = rw append_order (goes_beyond (sound_refusal k rows) (judge (Replace g 0 x) (sizes_in k rows)) (full (sizes_in k rows)) e z f)
+  pub append_order : (x : Float) → refusal_of (Append g x) k rows ≡ (refusal_of (Replace g 0 x) k rows or_else full (sizes_in k rows))
+  unfolding refusal_of judge
+  append_order x =
+      let ns : List ℕ = sizes_in k rows in
+      ap (λ (q : Refusal). sound_refusal k rows or_else q) (sym (checks_in_order (no_place g 0 ns) (new_nan g x) (full ns)))
+      ∙ sym (checks_in_order (sound_refusal k rows) (no_place g 0 ns or_else new_nan g x) (full ns))
 
--- where no place is free, an append that would pass as a replacement is refused
-pub append_full : (k : ℕ) (rows : List Row) (g : ℕ) (x : Float) → (refusal_of (Replace g 0 x) k rows).number ≡ 0 → 512 ≤ total (sizes_in k rows) → refuse 11 2 513 ≡ refusal_of (Append g x) k rows
-append_full k rows g x z h = append_goes_on k rows g x refl z (rw (le-leb 512 (total (sizes_in k rows)) h))
+  -- where no place is free, an append that would pass as a replacement is refused
+  pub append_full : (x : Float) {v : Result ⊤ Refusal} → v ≡ verdict (refusal_of (Replace g 0 x) k rows) → v ≡ Ok tt → {n : ℕ} → n ≡ sum_by size_of (take k rows) → 512 ≤ n → {r : Refusal} → r ≡ refuse 11 2 513
+      → Err r ≡ verdict (refusal_of (Append g x) k rows)
+  append_full x told e m h q =
+      let full_here : 512 ≤ total (sizes_in k rows) = rw (m ∙ sizes_added (take k rows)) at h in
+      rw append_order (asks_next (refusal_of (Replace g 0 x) k rows) (full (sizes_in k rows)) told e (rw (q, le-leb 512 (total (sizes_in k rows)) full_here)))
 
 -- number 0 is no refusal: it has no details
 judge_none : (c : Call) (ns : List ℕ) → (judge c ns).number ≡ 0 → judge c ns ≡ none

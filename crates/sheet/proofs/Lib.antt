@@ -1,3 +1,4 @@
+pub mod Moved
 pub mod Judged
 pub mod Relaid
 pub mod Found

@@ -1,14 +1,18 @@
 -- The three edits that are not refused: what the code has made is the edited sheet. at, end, used and row are what the code worked out.
-use mathlib.Core.Path.{◌≡◌, refl, ◌∙◌}
+use mathlib.Core.Path.{◌≡◌, refl, sym, ap, ◌∙◌}
 use mathlib.Core.List.{List, [], ◌∷◌, ◌++◌}
-use Prim.Native.Nat.{ℕ, suc, ◌+◌, ◌-◌, ◌<◌}
+use Prim.Native.Nat.{ℕ, suc, ◌+◌, ◌-◌, ◌<◌, ◌≤◌}
 use native.Mathlib.Omega.{arith}
 use lib.Ieee.{Float}
 use lib.ListN.{length, get_or, take, drop, set, length-append, length-set, length-drop}
 use lib.Seq.{length-take-le}
 use Rattle.base.specs.declared.Refusal.{Refusal}
-use Rattle.base.specs.Refusals.{none}
-use Rattle.base.proofs.Order.{answers_numbers}
+use Rattle.base.specs.Refusals.{none, verdict}
+use Rattle.std.specs.Prelude.{Result, Ok, Err, ⊤}
+use Rattle.std.specs.List.{sum_by}
+use Rattle.oneway_rows.specs.Inner.{size_of}
+use Rattle.oneway_rows.proofs.Counted.{sizes_added}
+use Rattle.base.proofs.Order.{answers_numbers, refused_answer, was_passed, was_refused}
 use Rattle.float.specs.Words.{plus_zero}
 use Rattle.oneway_rows.specs.declared.Row.{Row}
 use Rattle.oneway_rows.specs.Rows.{row_answer}
@@ -21,9 +25,24 @@ use Rattle.sheet.proofs.Judged.{opened, asked, replace_passed, append_passed, re
 use Rattle.sheet.proofs.Relaid.{relaid, replaced, appended, removed}
 use Rattle.sheet.proofs.Found.{start, Found, found, own_size, group_is, group_length, made}
 
+-- what an edit of the place p of group g knows: the group lies from at to end, and all readings end at `used`
+pub record Spot (k g p at end used : ℕ) : Type 0 where
+  pub rows : g < 16
+  pub groups : k ≤ 16
+  pub place : at + p < end
+  pub within : end ≤ used
+  pub fits : used ≤ 512
+
 -- an edit with this refusal and this sheet
 abbrev says : Refusal → List Float → List Row → ℕ → Edit
 says n ps rows k = record { refusal = n; sheet = record { places = ps; rows = rows; groups = k } }
+
+-- a call that was refused
+pub edit_refused : (c : Call) (s : Sheet) {v : Result ⊤ Refusal} → v ≡ verdict (refusal_of c s.groups s.rows) → {q : Refusal} → v ≡ Err q → record { refusal = q; sheet = s } ≡ call_of c s
+unfolding call_of
+edit_refused c s t e =
+    let w = was_refused (refusal_of c s.groups s.rows) tt t e in
+    rw (← w.0) (sym (refused_answer (refusal_of c s.groups s.rows) (refused_with s) _ w.1))
 
 module _ (s : Sheet) (r : length s.rows ≡ 16) (g : ℕ) where
   -- a call that was not refused is the sheet with its group's new readings
@@ -50,6 +69,36 @@ module _ (s : Sheet) (r : length s.rows ≡ 16) (g : ℕ) where
       let f = found s r g p (opened s.groups s.rows r g p a.0 q.0) in
       let h : 2 < start s (g + 1) - start s g = rw (own_size s r g p f) at q.1 in
       (f, omega arith)
+
+  -- the same, as the code is told: the group is there, and so `span` may be asked
+  module _ (p : ℕ) (x : Float) {v : Result ⊤ Refusal} (e : v ≡ Ok tt) where
+    pub replace_told : v ≡ verdict (refusal_of (Replace g p x) s.groups s.rows) → Found s g p
+    replace_told t = replace_found p x (was_passed _ tt t e)
+
+    pub append_told : v ≡ verdict (refusal_of (Append g x) s.groups s.rows) → Found s g 0 × (start s s.groups < 512)
+    append_told t = append_found x (was_passed _ tt t e)
+
+    pub remove_told : v ≡ verdict (refusal_of (Remove g p) s.groups s.rows) → Found s g p × (start s g + 2 < start s (g + 1))
+    remove_told t = remove_found p (was_passed _ tt t e)
+
+  -- where the group lies, as `span` tells it
+  module _ {ends : ℕ × ℕ} (e : ◌≡◌ {A = ℕ × ℕ} ends (sum_by size_of (take g s.rows), sum_by size_of (take (g + 1) s.rows))) where
+    pub begins : ends.0 ≡ start s g
+    begins = ap (λ (q : ℕ × ℕ). q.0) e ∙ sizes_added (take g s.rows)
+
+    pub finishes : ends.1 ≡ start s (g + 1)
+    finishes = ap (λ (q : ℕ × ℕ). q.1) e ∙ sizes_added (take (g + 1) s.rows)
+
+    -- the numbers that the code works with
+    pub spot : {p : ℕ} → Found s g p → Spot s.groups g p ends.0 ends.1 (start s s.groups)
+    spot f =
+        let o = f.open_here in
+        let b = begins in
+        let n = finishes in
+        record { rows = omega (arith, o.group, o.counts.high); groups = o.counts.high; place = omega (arith, b, n, f.next, o.place); within = omega (arith, n, f.within); fits = o.counts.fits }
+
+  pub uses : {n : ℕ} → n ≡ sum_by size_of (take s.groups s.rows) → n ≡ start s s.groups
+  uses e = e ∙ sizes_added (take s.groups s.rows)
 
   module _ (l : length s.places ≡ 512) {at end : ℕ} (a : at ≡ start s g) (b : end ≡ start s (g + 1)) where
     pub replace_made : (p : ℕ) (x : Float) → (refusal_of (Replace g p x) s.groups s.rows).number ≡ 0

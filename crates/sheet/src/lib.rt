@@ -45,24 +45,23 @@ impl Sheet {
         ensures { result ≡ load_of readings.now sizes.now }
     {
         let stats = oneway_rows::validate_anova_groups(readings, sizes);
-        let refusal = stats.refusal;
         let rows = stats.rows;
         let mut places = [0.0; Sheet::PLACES];
-        if refusal.number != 0 {
+        if let Err(refusal) = stats.refusal.check() {
             let zero = Sheet {
-                places: places,
-                rows: rows,
+                places,
+                rows,
                 groups: 0,
             };
             return Edit {
-                refusal: refusal,
+                refusal,
                 sheet: zero,
             };
         }
         lent::put(&mut places, readings);
         let loaded = Sheet {
-            places: places,
-            rows: rows,
+            places,
+            rows,
             groups: sizes.len(),
         };
         Edit {
@@ -75,25 +74,16 @@ impl Sheet {
     pub fn replace(self, group: usize, place: usize, x: f64) -> Edit
         ensures { result ≡ call_of (Call.Replace group place x) self }
     {
-        let mut rows = self.rows;
-        let k = self.groups;
-        let refusal = checks::replace_refusal(rows, k, group, place, x);
-        if refusal.number != 0 {
+        if let Err(refusal) = checks::replace_refusal(self.rows, self.groups, group, place, x) {
             return Edit {
-                refusal: refusal,
+                refusal,
                 sheet: self,
             };
         }
-        let at = checks::ahead(rows, group);
-        let end = checks::ahead(rows, group + 1);
-        let mut places = self.places;
-        places[at + place] = x;
-        rows[group] = Row::of(&places[at..end]);
-        let replaced = Sheet {
-            places: places,
-            rows: rows,
-            groups: k,
-        };
+        let (at, end) = checks::span(&self.rows, group);
+        let mut replaced = self;
+        replaced.places[at + place] = x;
+        replaced.rows[group] = Row::of(&replaced.places[at..end]);
         Edit {
             refusal: Refusal::none(),
             sheet: replaced,
@@ -104,25 +94,17 @@ impl Sheet {
     pub fn append(self, group: usize, x: f64) -> Edit
         ensures { result ≡ call_of (Call.Append group x) self }
     {
-        let mut rows = self.rows;
-        let k = self.groups;
-        let refusal = checks::append_refusal(rows, k, group, x);
-        if refusal.number != 0 {
+        if let Err(refusal) = checks::append_refusal(self.rows, self.groups, group, x) {
             return Edit {
-                refusal: refusal,
+                refusal,
                 sheet: self,
             };
         }
-        let at = checks::ahead(rows, group);
-        let end = checks::ahead(rows, group + 1);
-        let mut places = self.places;
-        places::insert(&mut places, end, checks::ahead(rows, k), x);
-        rows[group] = Row::of(&places[at..end + 1]);
-        let appended = Sheet {
-            places: places,
-            rows: rows,
-            groups: k,
-        };
+        let (at, end) = checks::span(&self.rows, group);
+        let used = checks::ahead(&self.rows, self.groups);
+        let mut appended = self;
+        places::insert(&mut appended.places, end, used, x);
+        appended.rows[group] = Row::of(&appended.places[at..end + 1]);
         Edit {
             refusal: Refusal::none(),
             sheet: appended,
@@ -133,25 +115,17 @@ impl Sheet {
     pub fn remove(self, group: usize, place: usize) -> Edit
         ensures { result ≡ call_of (Call.Remove group place) self }
     {
-        let mut rows = self.rows;
-        let k = self.groups;
-        let refusal = checks::remove_refusal(rows, k, group, place);
-        if refusal.number != 0 {
+        if let Err(refusal) = checks::remove_refusal(self.rows, self.groups, group, place) {
             return Edit {
-                refusal: refusal,
+                refusal,
                 sheet: self,
             };
         }
-        let at = checks::ahead(rows, group);
-        let end = checks::ahead(rows, group + 1);
-        let mut places = self.places;
-        places::delete(&mut places, at + place, checks::ahead(rows, k));
-        rows[group] = Row::of(&places[at..end - 1]);
-        let removed = Sheet {
-            places: places,
-            rows: rows,
-            groups: k,
-        };
+        let (at, end) = checks::span(&self.rows, group);
+        let used = checks::ahead(&self.rows, self.groups);
+        let mut removed = self;
+        places::delete(&mut removed.places, at + place, used);
+        removed.rows[group] = Row::of(&removed.places[at..end - 1]);
         Edit {
             refusal: Refusal::none(),
             sheet: removed,
@@ -162,10 +136,8 @@ impl Sheet {
     pub fn report(self, kind: AnovaKind) -> OneWayAnovaResult
         ensures { result ≡ report_of kind self }
     {
-        let rows = self.rows;
-        let k = self.groups;
-        let used = checks::used(rows, k);
+        let used = checks::used(self.rows, self.groups);
         let places = self.places;
-        oneway::report(rows, k, &places[..used], kind)
+        oneway::report(self.rows, self.groups, &places[..used], kind)
     }
 }

@@ -8,14 +8,8 @@ pub fn insert(places: &mut [f64], at: usize, end: usize, x: f64)
     requires { (at ≤ end) × (end < length places.old) }
     ensures { places.new ≡ inserted at end x places.old }
 {
-    let mut held = x;
-    let mut i = at;
-    while i <= end {
-        let next = places[i];
-        places[i] = held;
-        held = next;
-        i += 1;
-    }
+    places.copy_within(at..end, at + 1);
+    places[at] = x;
 }
 
 // The reading at `at` is gone: each one behind it goes one place down, and the place that the last one before `end` leaves is cleared.
@@ -23,10 +17,6 @@ pub fn delete(places: &mut [f64], at: usize, end: usize)
     requires { (at < end) × (end ≤ length places.old) }
     ensures { places.new ≡ deleted at end plus_zero places.old }
 {
-    let mut i = at;
-    while i + 1 < end {
-        places[i] = places[i + 1];
-        i += 1;
-    }
-    places[i] = 0.0;
+    places.copy_within(at + 1..end, at);
+    places[end - 1] = 0.0;
 }

@@ -1,10 +1,10 @@
 -- Laws of a sum that a loop adds up: what is left to add from i on, from t, gives the whole sum.
-use mathlib.Core.Path.{◌≡◌, refl, ap, ◌∙◌}
-use mathlib.Core.List.{List}
+use mathlib.Core.Path.{◌≡◌, refl}
+use mathlib.Core.List.{List, [], ◌∷◌, map, foldl}
 use Prim.Native.Nat.{ℕ, ◌+◌, ◌<◌, ◌≤◌}
-use lib.ListN.{get_or, length, take}
+use Rattle.std.specs.List.{fold}
+use lib.ListN.{get_or, length}
 use lib.Ieee.{Float}
-use Rattle.base.proofs.Fills.{at_taken, past_taken}
 use Rattle.base.proofs.Folds.{rest, fold_step, fold_ends}
 use Rattle.float.specs.Words.{◌⊕◌, minus_zero}
 use Rattle.stats.specs.Sums.{add_by, sum_by}
@@ -23,12 +23,7 @@ module _ {A : Type 0} (f : A → Float) (xs : List A) where
   pub sum_ends : (i : ℕ) (t : Float) → Left t i → length xs ≤ i → t ≡ sum_by f xs
   sum_ends i t e h = fold_ends (add_by f) xs i t e h
 
--- the same over the first k places
-module _ {A : Type 0} (f : A → Float) (k : ℕ) (xs : List A) where
-  pub sum_step_of : k ≤ length xs → (d : A) (i : ℕ) (t x : Float) → Left f (take k xs) t i → i < k → x ≡ f (get_or xs i d) → Left f (take k xs) (t ⊕ x) (i + 1)
-  sum_step_of l d i t x e h q =
-      let p = at_taken k xs d i l h in
-      sum_step f (take k xs) d i t (t ⊕ x) e p.0 (ap (λ (y : Float). t ⊕ y) q ∙ ap (λ (y : A). t ⊕ f y) p.1)
-
-  pub sum_ends_of : (i : ℕ) (t : Float) → Left f (take k xs) t i → k ≤ i → t ≡ sum_by f (take k xs)
-  sum_ends_of i t e h = sum_ends f (take k xs) i t e (past_taken k xs i h)
+-- f of each, added up, is the sum by f
+pub sum_of_map : {A : Type 0} (f : A → Float) (t : Float) (xs : List A) → fold (λ a x. a ⊕ x) t (map f xs) ≡ foldl (add_by f) t xs
+sum_of_map f t [] = refl
+sum_of_map f t (x ∷ xs) = sum_of_map f (t ⊕ f x) xs

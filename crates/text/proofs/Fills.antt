@@ -1,11 +1,10 @@
 -- The loop that fills in digits from the last place to the first: one turn, and its end.
 use mathlib.Core.Path.{◌≡◌, refl}
-use mathlib.Core.List.{List, ◌∷◌, ◌++◌, append_assoc}
+use mathlib.Core.List.{List, ◌∷◌, ◌++◌, append_assoc, append-nil}
 use Prim.Native.Nat.{ℕ, zero, suc, ◌-◌, ◌/◌, ◌%◌, ◌<◌, ◌≤◌}
 use native.Mathlib.Omega.{arith}
-use lib.ListN.{length, drop, set, length-set, length-append}
+use lib.ListN.{length, drop, set, length-set, length-append, drop_of_length-le}
 use lib.Seq.{drop-cons, get_or-set_same, drop-set-lt}
-use Rattle.base.specs.Lists.{over}
 use Rattle.text.specs.Numbers.{digits, glyph}
 
 pub length_digits : (base k n : ℕ) → length (digits base k n) ≡ k
@@ -31,8 +30,10 @@ module _ (base : ℕ) (out : List ℕ) where
       let k : suc (i - 1) ≡ i = omega arith in
       rw (e, in_front (i - 1) rest (omega arith), k) w
 
-  -- all digits are in out, which was `start` before
-  pub fill_ends : (i rest count n : ℕ) (start : List ℕ) → digits base i rest ++ drop i out ≡ digits base count n ++ drop count start → i ≤ 0
-      → out ≡ over (digits base count n) start
+  pub fill_starts : (n : ℕ) → digits base (length out) n ++ drop (length out) out ≡ digits base (length out) n
+  fill_starts n = rw (drop_of_length-le out {i = length out} (omega arith)) (append-nil (digits base (length out) n))
+
+  -- all digits are in out
+  pub fill_ends : (i rest : ℕ) {whole : List ℕ} → digits base i rest ++ drop i out ≡ whole → i ≤ 0 → out ≡ whole
   unfolding digits
-  fill_ends i rest count n start e z = let k : i ≡ 0 = omega arith in rw length_digits (rw k at e)
+  fill_ends i rest e z = let k : i ≡ 0 = omega arith in rw k at e

@@ -1,7 +1,5 @@
 -- Numbers as text: their digits in ASCII, the most significant first.
-use Rattle.std.specs.Prelude.{ℕ, zero, suc, ◌+◌, ◌/◌, ◌%◌, List, [], ◌∷◌, ◌++◌, cond, ltb, replicate}
-use Rattle.base.specs.Lists.{over}
-use Rattle.text.specs.declared.Numeral.{Numeral}
+use Rattle.std.specs.Prelude.{ℕ, zero, suc, ◌+◌, ◌/◌, ◌%◌, List, [], ◌∷◌, ◌++◌, cond, ltb}
 
 -- the digit of a number below 16: `0` to `9`, then `A` to `F`
 abbrev pub glyph : ℕ → ℕ
@@ -28,11 +26,3 @@ width_of n = width_in 19 n
 -- the decimal digits of n, with no zeros in front: 0 is `0`
 unfoldable pub numeral_of : ℕ → List ℕ
 numeral_of n = digits 10 (width_of n) n
-
--- 20 places that hold 0
-unfoldable pub blank : List ℕ
-blank = replicate 20 0
-
--- those digits in 20 places, the unused places 0
-unfoldable pub decimal_of : ℕ → Numeral
-decimal_of n = record { digits = over (numeral_of n) blank; len = width_of n }

@@ -1,4 +1,4 @@
-use Prim.Native.Nat.{◌≤◌, ◌-◌, ◌*◌}
+use Prim.Native.Nat.{◌*◌}
 use mathlib.Core.Path.{◌≡◌}
 use lib.ListN.{length}
 use lib.ListN.{drop}
@@ -8,8 +8,5 @@ use Rattle.base.specs.Lists.{over}
 use Rattle.bench.specs.Calls.{float_bytes}
 use Rattle.bench.proofs.put_floats.Given as goal
 
-abbrev pub invariant-loop-i : goal.invariant-loop-i
-invariant-loop-i l = (l.i ≤ length l.figures) × (length l.out ≡ length l.initial.out) × (sets l.out (l.i * 8) (run float_bytes (drop l.i l.figures)) ≡ over (run float_bytes l.figures) l.initial.out)
-
-abbrev pub decreases-loop-i : goal.decreases-loop-i
-decreases-loop-i l = length l.figures - l.i
+abbrev pub invariant-loop-x : goal.invariant-loop-x
+invariant-loop-x l = (length l.out ≡ length l.initial.out) × (l.at ≡ l.x-index * 8) × (sets l.out l.at (run float_bytes (drop l.x-index l.figures)) ≡ over (run float_bytes l.figures) l.initial.out)

@@ -4,6 +4,7 @@ use native.Mathlib.Omega.{arith}
 use Rattle.matrix_linear.proofs.Calls.{inverse_many, inverse_short, inverse_taken}
 use Rattle.base.proofs.Bounds.{product_le}
 use Rattle.matrix_linear.specs.Rows.{most_rows}
+use Rattle.matrix_linear.specs.Inverse.{full_column, reduced}
 use Rattle.matrix_linear.proofs.matrix_inverse.Goals as goal
 
 pub returns-then-n-gt-MOST_ROWS : goal.returns-then-n-gt-MOST_ROWS
@@ -17,5 +18,6 @@ pub returns-then-m-n : goal.returns-then-m-n
 returns-then-m-n c = inverse_short _ _ c.if-n-gt-MOST_ROWS.false c.if-m-n.true c.not_taken-then-m-n.ensures
 
 pub returns : goal.returns
+unfolding full_column reduced
 returns c =
-    inverse_taken _ _ c.if-n-gt-MOST_ROWS.false c.if-m-n.false c.unit.ensures c.full_columns-skipped.ensures c.canon_places.ensures
+    inverse_taken _ _ c.if-n-gt-MOST_ROWS.false c.if-m-n.false c.unit.ensures c.columns-skipped.ensures c.canon_places.ensures

@@ -4,6 +4,7 @@ use native.Mathlib.Omega.{arith}
 use Rattle.matrix_linear.proofs.Calls.{solve_many, solve_short, solve_taken}
 use Rattle.base.proofs.Bounds.{product_le}
 use Rattle.matrix_linear.specs.Rows.{most_rows}
+use Rattle.matrix_linear.specs.System.{column, cleared}
 use Rattle.matrix_linear.proofs.solve_linear_system.Goals as goal
 
 pub returns-then-n-gt-MOST_ROWS : goal.returns-then-n-gt-MOST_ROWS
@@ -17,5 +18,6 @@ pub returns-then-m-n : goal.returns-then-m-n
 returns-then-m-n c = solve_short _ _ c.if-n-gt-MOST_ROWS.false c.if-m-n.true c.not_taken-then-m-n.ensures
 
 pub returns : goal.returns
+unfolding column cleared
 returns c =
-    solve_taken _ _ c.if-n-gt-MOST_ROWS.false c.if-m-n.false c.forward-skipped.ensures c.backward.ensures c.canon_places.ensures
+    solve_taken _ _ c.if-n-gt-MOST_ROWS.false c.if-m-n.false c.columns-skipped.ensures c.backward.ensures c.canon_places.ensures

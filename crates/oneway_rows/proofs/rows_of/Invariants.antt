@@ -1,20 +1,13 @@
-use Prim.Native.Nat.{◌≤◌, ◌-◌, ◌+◌}
+-- The rows of what is left, laid over the places from group g on, give the rows of all.
 use mathlib.Core.Path.{◌≡◌}
-use lib.ListN.{length}
-use lib.ListN.{drop}
-use Rattle.base.specs.Lists.{total, cut}
-use Rattle.oneway_rows.specs.declared.Row.{Row}
-use Rattle.oneway_rows.specs.Rows.{rows_of}
-use Rattle.oneway_rows.proofs.Laid.{laying}
+use mathlib.Core.List.{map}
+use lib.ListN.{length, drop}
+use lib.Seq.{sets}
+use Rattle.base.specs.Lists.{cut}
+use Rattle.oneway_rows.specs.Rows.{row_answer, rows_answer}
 use Rattle.oneway_rows.proofs.rows_of.Given as goal
-
-abbrev itself : Row → Row
-itself r = r
 
 abbrev pub invariant-loop-g : goal.invariant-loop-g
 invariant-loop-g l =
-    (l.g ≤ length l.sizes) × (l.at + total (drop l.g l.sizes) ≡ length l.readings) × (length l.rows ≡ 16)
-    × (laying l.readings l.sizes l.g l.at itself l.rows ≡ rows_of (cut l.sizes l.readings))
-
-abbrev pub decreases-loop-g : goal.decreases-loop-g
-decreases-loop-g l = length l.sizes - l.g
+    (length l.rows ≡ 16)
+    × (sets l.rows l.g (map row_answer (cut (drop l.g l.size-items) l.rest)) ≡ rows_answer l.readings l.sizes)

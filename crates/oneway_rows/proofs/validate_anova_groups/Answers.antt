@@ -1,18 +1,21 @@
--- Readings that passed the checks are parted into groups of 2 to 512 (`parted`), which is what the rows ask.
+-- Readings that passed the checks are parted into groups of 2 to 512 (`parted`), so that each has its row.
+use Rattle.std.proofs.Common.{sym, ap, ◌∙◌}
 use Rattle.base.proofs.Cuts.{length_cut}
-use Rattle.base.proofs.Order.{answers_refused, answers_numbers}
-use Rattle.oneway_rows.specs.Rows.{validate_anova_groups}
+use Rattle.base.proofs.Order.{passed_answer, refused_answer, was_passed, was_refused}
+use Rattle.oneway_checks.specs.Checks.{one_way_refusal}
+use Rattle.oneway_rows.specs.Rows.{refused_stats, validate_anova_groups}
+use Rattle.oneway_rows.proofs.Laid.{rows_there}
 use Rattle.oneway_rows.proofs.Parts.{parted}
 use Rattle.oneway_rows.proofs.validate_anova_groups.Goals as goal
 
-pub returns-then-r-ne0 : goal.returns-then-r-ne0
+pub returns-in-Ok : goal.returns-in-Ok
 unfolding validate_anova_groups
-returns-then-r-ne0 c = answers_refused _ _ _ c.one_way_refusal-r.ensures c.if-r-ne0.true c.refused.ensures
+returns-in-Ok c =
+    let z = was_passed _ tt c.one_way_refusal.ensures c.in-Ok.is in
+    rw (c.none.ensures, c.rows_of.ensures, rows_there _ _ (parted _ _ z), ← length_cut c.args.sizes.now c.args.readings.now) (sym (passed_answer (one_way_refusal c.args.readings.now c.args.sizes.now) refused_stats _ z))
 
-pub rows_of-rows-requires : goal.rows_of-rows-requires
-rows_of-rows-requires c = parted _ _ (rw c.one_way_refusal-r.ensures at c.if-r-ne0.false)
-
-pub returns : goal.returns
+pub returns-in-Err : goal.returns-in-Err
 unfolding validate_anova_groups
-returns c =
-    answers_numbers _ _ _ c.one_way_refusal-r.ensures c.if-r-ne0.false (rw (c.none.ensures, c.rows_of-rows.ensures, length_cut))
+returns-in-Err c =
+    let w = was_refused _ tt c.one_way_refusal.ensures c.in-Err.is in
+    c.refused.ensures ∙ ap refused_stats (sym w.0) ∙ sym (refused_answer (one_way_refusal c.args.readings.now c.args.sizes.now) refused_stats _ w.1)

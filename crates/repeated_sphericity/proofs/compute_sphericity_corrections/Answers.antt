@@ -8,9 +8,11 @@ use Rattle.repeated_sphericity.proofs.compute_sphericity_corrections.Goals as go
 pub returns-then-k-lt3 : goal.returns-then-k-lt3
 returns-then-k-lt3 c = c.no_corrections.ensures ∙ two_conditions _ _ _ _ _ _ _ c.if-k-lt3.true
 
-pub corrections_of-requires : goal.corrections_of-requires
+pub invariant_of-corrections_of : goal.invariant_of-corrections_of
 unfolding csc zeros
-corrections_of-requires c = known _ _ _ _ c.if-k-lt3.false c.contrast_covariance.ensures c.if-contrast_covariance.true
+invariant_of-corrections_of c =
+    let k = known _ _ _ _ c.if-k-lt3.false c.contrast_covariance.ensures c.if-contrast_covariance.true in
+    record { few_subjects = k.few_subjects; some_conditions = k.some_conditions; few_conditions = k.few_conditions }
 
 pub returns-then-contrast_covariance : goal.returns-then-contrast_covariance
 unfolding csc zeros

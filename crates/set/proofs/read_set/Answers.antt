@@ -1,76 +1,33 @@
--- A set that passed its checks is long enough for its sizes and for its readings (`Headed`).
-use mathlib.Core.Path.{◌≡◌, sym}
-use native.Mathlib.Omega.{arith}
-use lib.ListN.{length-take, length-drop}
-use lib.Seq.{length-take-le}
-use Rattle.base.proofs.Order.{answers_refused}
+-- The checks stand in the definition's order. What each one needs of the bytes lies within the length that those before it asked, and a set that passed them all is long enough for its readings.
+use Rattle.std.proofs.Common.{arith}
+use borrow.Author.Tests.{eqb-false}
+use mathlib.Core.Path.{refl}
+use lib.ListN.{length-drop}
 use Rattle.base.proofs.Parts.{rest_part}
-use Rattle.set.specs.Sets.{set_refusal, read_set}
-use Rattle.set.proofs.Heads.{Headed, headed, body_fits, set_made}
+use Rattle.set.proofs.Littles.{two_first}
+use Rattle.set.proofs.Heads.{counted, fails, cut_off, too_many_groups, contents_short, too_many_readings, wrong_length, nothing_wrong, body_fits, set_made}
 use Rattle.set.proofs.read_set.Goals as goal
 
-pub returns-then-r-ne0 : goal.returns-then-r-ne0
-unfolding read_set
-returns-then-r-ne0 c = answers_refused _ _ _ c.set_refusal-r.ensures c.if-r-ne0.true c.refused.ensures
+pub returns-then-len-lt2 : goal.returns-then-len-lt2
+returns-then-len-lt2 c = fails c.args.set.now c.new.ensures (cut_off c.args.set.now c.if-len-lt2.true) (eqb-false 10 0 refl)
 
-pub slice_bounds-number-end : goal.slice_bounds-number-end
-slice_bounds-number-end c =
-    let zero : (set_refusal c.args.set.now).number ≡ 0 = rw c.set_refusal-r.ensures at c.if-r-ne0.false in
-    let known : Headed c.args.set.now = headed _ zero in
-    let k = known in sym (length-take-le 2 c.args.set.now k.two)
+pub returns-then-k-gt-MOST_GROUPS : goal.returns-then-k-gt-MOST_GROUPS
+returns-then-k-gt-MOST_GROUPS c = fails c.args.set.now c.new-then-k-gt-MOST_GROUPS.ensures (too_many_groups c.args.set.now c.if-len-lt2.false c.from_le_bytes-k.result (two_first c.args.set.now c.if-len-lt2.false c.from_le_bytes-k.ensures) c.if-k-gt-MOST_GROUPS.true) (eqb-false 11 0 refl)
 
-pub number-k-requires : goal.number-k-requires
-number-k-requires c = simp length-take (omega arith)
+pub returns-then-len-contents : goal.returns-then-len-contents
+returns-then-len-contents c = fails c.args.set.now c.new-then-len-contents.ensures (contents_short c.args.set.now c.if-len-lt2.false c.from_le_bytes-k.result (two_first c.args.set.now c.if-len-lt2.false c.from_le_bytes-k.ensures) c.if-k-gt-MOST_GROUPS.false c.if-len-contents.true) (eqb-false 10 0 refl)
 
-pub slice_bounds-sizes_in-count : goal.slice_bounds-sizes_in-count
-slice_bounds-sizes_in-count c =
-    let zero : (set_refusal c.args.set.now).number ≡ 0 = rw c.set_refusal-r.ensures at c.if-r-ne0.false in
-    let known : Headed c.args.set.now = headed _ zero in
-    let k = known in omega arith
+pub sizes_in-total-requires : goal.sizes_in-total-requires
+sizes_in-total-requires c = (omega arith, rw (rest_part 2 c.args.set.now, length-drop) (omega arith))
 
-pub slice_bounds-sizes_in-start : goal.slice_bounds-sizes_in-start
-slice_bounds-sizes_in-start c =
-    let zero : (set_refusal c.args.set.now).number ≡ 0 = rw c.set_refusal-r.ensures at c.if-r-ne0.false in
-    let known : Headed c.args.set.now = headed _ zero in
-    let k = known in omega arith
+pub returns-then-n-gt-MOST_READINGS : goal.returns-then-n-gt-MOST_READINGS
+returns-then-n-gt-MOST_READINGS c = fails c.args.set.now c.new-then-n-gt-MOST_READINGS.ensures (too_many_readings c.args.set.now c.if-len-lt2.false c.from_le_bytes-k.result (two_first c.args.set.now c.if-len-lt2.false c.from_le_bytes-k.ensures) c.if-k-gt-MOST_GROUPS.false c.if-len-contents.false c.sizes_in-total.result.total (counted c.args.set.now c.from_le_bytes-k.result c.sizes_in-total.ensures) c.if-n-gt-MOST_READINGS.true) (eqb-false 11 0 refl)
 
-pub sizes_in-contents-requires : goal.sizes_in-contents-requires
-sizes_in-contents-requires c =
-    let zero : (set_refusal c.args.set.now).number ≡ 0 = rw c.set_refusal-r.ensures at c.if-r-ne0.false in
-    let known : Headed c.args.set.now = headed _ zero in
-    let k = known in
-    (omega (arith, c.number-k.ensures, k.groups), rw (rest_part 2 c.args.set.now, length-drop) (omega (arith, c.number-k.ensures, k.contents)))
+pub returns-then-len-needed : goal.returns-then-len-needed
+returns-then-len-needed c = fails c.args.set.now c.new-then-len-needed.ensures (wrong_length c.args.set.now c.if-len-lt2.false c.from_le_bytes-k.result (two_first c.args.set.now c.if-len-lt2.false c.from_le_bytes-k.ensures) c.if-k-gt-MOST_GROUPS.false c.if-len-contents.false c.sizes_in-total.result.total (counted c.args.set.now c.from_le_bytes-k.result c.sizes_in-total.ensures) c.if-n-gt-MOST_READINGS.false c.if-len-needed.true) (eqb-false 10 0 refl)
 
-pub overflow_mul-body : goal.overflow_mul-body
-overflow_mul-body c =
-    let zero : (set_refusal c.args.set.now).number ≡ 0 = rw c.set_refusal-r.ensures at c.if-r-ne0.false in
-    let known : Headed c.args.set.now = headed _ zero in
-    let k = known in omega (arith, c.number-k.ensures, k.groups)
-
-pub overflow_add-body : goal.overflow_add-body
-overflow_add-body c =
-    let zero : (set_refusal c.args.set.now).number ≡ 0 = rw c.set_refusal-r.ensures at c.if-r-ne0.false in
-    let known : Headed c.args.set.now = headed _ zero in
-    let k = known in omega (arith, c.number-k.ensures, k.groups)
-
-pub slice_bounds-readings_in-count : goal.slice_bounds-readings_in-count
-slice_bounds-readings_in-count c =
-    let zero : (set_refusal c.args.set.now).number ≡ 0 = rw c.set_refusal-r.ensures at c.if-r-ne0.false in
-    let known : Headed c.args.set.now = headed _ zero in
-    let k = known in omega (arith, c.number-k.ensures, k.contents)
-
-pub slice_bounds-readings_in-start : goal.slice_bounds-readings_in-start
-slice_bounds-readings_in-start c =
-    let zero : (set_refusal c.args.set.now).number ≡ 0 = rw c.set_refusal-r.ensures at c.if-r-ne0.false in
-    let known : Headed c.args.set.now = headed _ zero in
-    let k = known in omega (arith, c.number-k.ensures, k.contents)
-
-pub readings_in-readings-requires : goal.readings_in-readings-requires
-readings_in-readings-requires c =
-    let zero : (set_refusal c.args.set.now).number ≡ 0 = rw c.set_refusal-r.ensures at c.if-r-ne0.false in
-    body_fits _ zero _ c.number-k.ensures c.sizes_in-contents.result c.sizes_in-contents.ensures
+pub readings_in-requires : goal.readings_in-requires
+readings_in-requires c = body_fits c.args.set.now (nothing_wrong c.args.set.now c.if-len-lt2.false c.from_le_bytes-k.result (two_first c.args.set.now c.if-len-lt2.false c.from_le_bytes-k.ensures) c.if-k-gt-MOST_GROUPS.false c.if-len-contents.false c.sizes_in-total.result.total (counted c.args.set.now c.from_le_bytes-k.result c.sizes_in-total.ensures) c.if-n-gt-MOST_READINGS.false c.if-len-needed.false) _ (two_first c.args.set.now c.if-len-lt2.false c.from_le_bytes-k.ensures) c.sizes_in-total.result c.sizes_in-total.ensures
 
 pub returns : goal.returns
-returns c =
-    let zero : (set_refusal c.args.set.now).number ≡ 0 = rw c.set_refusal-r.ensures at c.if-r-ne0.false in
-    rw c.none.ensures (set_made _ zero _ c.number-k.ensures c.sizes_in-contents.result c.sizes_in-contents.ensures _ c.readings_in-readings.ensures)
+returns c = set_made c.args.set.now (nothing_wrong c.args.set.now c.if-len-lt2.false c.from_le_bytes-k.result (two_first c.args.set.now c.if-len-lt2.false c.from_le_bytes-k.ensures) c.if-k-gt-MOST_GROUPS.false c.if-len-contents.false c.sizes_in-total.result.total (counted c.args.set.now c.from_le_bytes-k.result c.sizes_in-total.ensures) c.if-n-gt-MOST_READINGS.false c.if-len-needed.false) _ (two_first c.args.set.now c.if-len-lt2.false c.from_le_bytes-k.ensures) c.sizes_in-total.result c.sizes_in-total.ensures _ c.readings_in.ensures

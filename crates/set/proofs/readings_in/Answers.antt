@@ -1,51 +1,28 @@
 -- Place after place is filled with the reading of its eight bytes.
-use Prim.Native.Nat.{◌≤◌, ◌+◌, ◌*◌}
-use mathlib.Core.Path.{refl, ◌∙◌, ap}
-use native.Mathlib.Omega.{arith}
-use lib.ListN.{length, length-set}
+use Rattle.std.proofs.Common.{refl, length, ◌≤◌, ◌/◌, ap, ◌∙◌, arith}
 use mathlib.Core.List.{[]}
-use lib.ListN.{length-take}
+use lib.ListN.{length-set}
 use Rattle.base.specs.Lists.{words}
-use Rattle.base.proofs.Bounds.{row_end}
 use Rattle.base.proofs.Fills.{fill_starts, fill_step, fill_ends}
 use Rattle.base.proofs.Words.{length_words}
 use Rattle.float.specs.Words.{bits}
-use Rattle.set.specs.Bytes.{little, reading}
+use Rattle.set.specs.Bytes.{reading}
 use Rattle.set.specs.Sets.{no_readings}
-use Rattle.set.proofs.Littles.{word_here}
+use Rattle.set.proofs.Littles.{chunks_are, among, eight_read}
 use Rattle.set.proofs.readings_in.Goals as goal
 
 pub loop-i-init : goal.loop-i-init
 unfolding no_readings
-loop-i-init c =
-    (omega arith, refl, fill_starts reading (words 8 c.args.n c.args.bytes.now) no_readings (rw (length_words 8 c.args.n c.args.bytes.now) (omega arith)))
-
-pub overflow_mul-at : goal.overflow_mul-at
-overflow_mul-at c =
-    let ends : c.loop-i.i * 8 + 8 ≤ length c.args.bytes.now = row_end c.loop-i.i c.args.n 8 c.loop-i-test.true c.requires.1 in
-    omega (arith, ends)
-
-pub overflow_add-at : goal.overflow_add-at
-overflow_add-at c =
-    let ends : c.loop-i.i * 8 + 8 ≤ length c.args.bytes.now = row_end c.loop-i.i c.args.n 8 c.loop-i-test.true c.requires.1 in
-    omega (arith, ends)
-
-pub slice_bounds-number-end : goal.slice_bounds-number-end
-slice_bounds-number-end c =
-    let ends : c.loop-i.i * 8 + 8 ≤ length c.args.bytes.now = row_end c.loop-i.i c.args.n 8 c.loop-i-test.true c.requires.1 in
-    omega (arith, ends)
-
-pub number-requires : goal.number-requires
-number-requires c = simp length-take (omega arith)
+loop-i-init c = (refl, fill_starts reading (words 8 c.args.n c.args.bytes.now) no_readings (rw (length_words 8 c.args.n c.args.bytes.now) c.requires.0))
 
 pub loop-i-preserved : goal.loop-i-preserved
 loop-i-preserved c =
-    let e = c.float_of.ensures ∙ ap bits (c.number.ensures ∙ ap little (word_here 8 c.args.n c.args.bytes.now c.loop-i.i c.loop-i-test.true)) in (
-      omega arith,
-      simp length-set (omega arith),
-      fill_step reading (words 8 c.args.n c.args.bytes.now) [] c.loop-i.readings c.loop-i.i c.float_of.result c.loop-i.invariant.2 (rw (length_words 8 c.args.n c.args.bytes.now) c.loop-i-test.true) e,
-    )
+    let few : c.args.n ≤ length c.args.bytes.now / 8 = omega (arith, c.requires.1) in
+    let e = eight_read _ c.args.n c.args.bytes.now c.as_chunks.ensures.front few c.requires.1 c.loop-i.i c.loop-i-test.true _ c.from_le_bytes.ensures in
+    let h = among 8 _ c.args.n c.args.bytes.now c.as_chunks.ensures.front few c.loop-i.i c.loop-i-test.true in
+    (rw length-set c.loop-i.invariant.0, fill_step reading (words 8 c.args.n c.args.bytes.now) [] c.loop-i.readings c.loop-i.i _ c.loop-i.invariant.1 (rw length_words h) (c.float_of.ensures ∙ ap bits e))
 
 pub returns : goal.returns
 returns c =
-    fill_ends reading (words 8 c.args.n c.args.bytes.now) c.loop-i.readings c.loop-i.i c.loop-i.invariant.2 (rw (length_words 8 c.args.n c.args.bytes.now) c.loop-i-test.false)
+    let few : c.args.n ≤ length c.args.bytes.now / 8 = omega (arith, c.requires.1) in
+    fill_ends reading (words 8 c.args.n c.args.bytes.now) c.loop-i.readings c.loop-i.i c.loop-i.invariant.1 (rw (chunks_are 8 _ c.args.n c.args.bytes.now c.as_chunks.ensures.front few) at c.loop-i-test.false)

@@ -1,18 +1,16 @@
--- What is left to add from place i on, from the sum so far, gives the whole sum.
-use mathlib.Core.Path.{refl, ◌∙◌}
-use borrow.Author.Rules.{rules}
-use lib.Ieee.{nan}
-use Rattle.stats.specs.Sums.{sq_dist}
-use Rattle.stats.proofs.Adding.{sum_starts, sum_step, sum_ends}
+-- The squares are added up in the order of the readings, from -0.0.
+use Rattle.std.proofs.Common.{rules, ◌∙◌}
+use Rattle.std.proofs.lemmas.Iterator.{YieldsList-from_slice, YieldsList-from_map}
+use Rattle.std.proofs.lemmas.Iterator.Consumers.{YieldsList-at}
+use Rattle.std.proofs.lemmas.Iterator.Adapters.{total_from_yields_List}
+use Rattle.float.specs.Words.{◌⊕◌, minus_zero}
+use Rattle.stats.specs.Sums.{sum_by, sq_dist}
+use Rattle.stats.proofs.Adding.{sum_of_map}
 use Rattle.stats.proofs.sq_dev.Goals as goal
 
-pub loop-i-init : goal.loop-i-init
-loop-i-init c = (search rules, sum_starts (sq_dist c.args.mean) c.args.readings.now)
-
-pub loop-i-preserved : goal.loop-i-preserved
-loop-i-preserved c =
-    (search rules, sum_step (sq_dist c.args.mean) c.args.readings.now nan c.loop-i.i c.loop-i.t _ c.loop-i.invariant.1 c.loop-i-test.true refl)
-
 pub returns : goal.returns
+unfolding sum_by
 returns c =
-    c.canon.ensures ∙ sum_ends (sq_dist c.args.mean) c.args.readings.now c.loop-i.i c.loop-i.t c.loop-i.invariant.1 c.loop-i-test.false
+    c.canon.ensures
+    ∙ (total_from_yields_List ◌⊕◌ minus_zero c.sum.result c.sum.ensures.ran (YieldsList-from_map _ (sq_dist c.args.mean) (YieldsList-at c.map.ensures.source (YieldsList-from_slice c.args.readings.now cc)) c.map.ensures.closure (λ x r q k. search rules))
+    ∙ sum_of_map (sq_dist c.args.mean) minus_zero c.args.readings.now)

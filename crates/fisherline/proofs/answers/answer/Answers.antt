@@ -1,5 +1,6 @@
 -- The two lengths are asked first; then the answer is either a refusal or Fisher's five lines, and both fit into 256 places.
-use mathlib.Core.Path.{◌∙◌, ap}
+use mathlib.Core.Path.{◌∙◌, ap, sym}
+use Rattle.base.proofs.Order.{was_passed, was_refused}
 use Rattle.base.specs.declared.Refusal.{Refusal}
 use Rattle.fisherline.specs.Rows.{puts}
 use Rattle.fisherline.specs.Answers.{refused_text}
@@ -18,18 +19,13 @@ returns-then-set-gt-LONGEST c =
     too_long _ _ c.if-out-lt-ROOM.false c.if-set-gt-LONGEST.true
     (c.refused.ensures ∙ ap (λ (r : Refusal). puts c.args.out.now 0 (refused_text r)) c.new.ensures)
 
-pub shape_of-out-then-r-ne0 : goal.shape_of-out-then-r-ne0
-shape_of-out-then-r-ne0 c = puts_length _ 0 _ c.refused-then-r-ne0.ensures
-
-pub returns-then-r-ne0 : goal.returns-then-r-ne0
-returns-then-r-ne0 c =
-    answers_refusal _ _ c.if-out-lt-ROOM.false c.if-set-gt-LONGEST.false c.set_anova-a.result c.set_anova-a.ensures
-    c.if-r-ne0.true c.refused-then-r-ne0.ensures
-
-pub shape_of-out : goal.shape_of-out
-shape_of-out c = puts_length _ 0 _ c.fisher.ensures
-
-pub returns : goal.returns
-returns c =
+pub returns-in-Ok : goal.returns-in-Ok
+returns-in-Ok c =
     answers_fisher _ _ c.if-out-lt-ROOM.false c.if-set-gt-LONGEST.false c.set_anova-a.result c.set_anova-a.ensures
-    c.if-r-ne0.false c.fisher.ensures
+    (was_passed _ _ c.check.ensures c.in-Ok.is) c.fisher.ensures
+
+pub returns-in-Err : goal.returns-in-Err
+returns-in-Err c =
+    let w = was_refused c.set_anova-a.result.refusal tt c.check.ensures c.in-Err.is in
+    answers_refusal _ _ c.if-out-lt-ROOM.false c.if-set-gt-LONGEST.false c.set_anova-a.result c.set_anova-a.ensures
+    w.1 (c.refused-in-Err.ensures ∙ ap (λ (r : Refusal). puts c.args.out.now 0 (refused_text r)) (sym w.0))

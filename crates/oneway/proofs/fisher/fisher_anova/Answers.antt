@@ -1,11 +1,11 @@
--- The rows that the summary was made of are read off its columns (`rows_back`); the rest is the definition's operations in its order.
+-- The definition's operations in its order.
 use Rattle.oneway.specs.Fisher.{fisher_anova}
-use Rattle.oneway.proofs.Summaries.{rows_back}
+use Rattle.oneway_rows.proofs.Counted.{sizes_added}
 use Rattle.oneway.proofs.fisher.fisher_anova.Goals as goal
 
 pub returns : goal.returns
 unfolding fisher_anova
-returns c rs e =
+returns c =
     rw (
       c.canon-2.ensures,
       c.canon.ensures,
@@ -14,10 +14,11 @@ returns c rs e =
       c.canon-ms_between.ensures,
       c.minus-df_within.ensures,
       c.minus-df_between.ensures,
-      c.sum_rows-ss_within.ensures,
-      c.sum_rows-ss_between.ensures,
+      c.ss_within-ss_within.ensures,
+      c.ss_between-ss_between.ensures,
       c.canon-grand_mean.ensures,
       c.sum.ensures,
-      e,
-      rows_back rs,
+      c.n_total-n_total.ensures,
+      sizes_added c.args.rows.now,
+      c.columns.ensures,
     )

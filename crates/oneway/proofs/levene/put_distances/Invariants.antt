@@ -1,4 +1,5 @@
-use Prim.Native.Nat.{◌≤◌, ◌-◌, ◌+◌}
+-- What is left to put from group g on gives the whole.
+use Prim.Native.Nat.{◌+◌}
 use mathlib.Core.Path.{◌≡◌}
 use mathlib.Core.List.{flatten}
 use lib.ListN.{length, drop}
@@ -9,8 +10,5 @@ use Rattle.oneway.proofs.levene.put_distances.Given as goal
 
 abbrev pub invariant-loop-g : goal.invariant-loop-g
 invariant-loop-g l =
-    (l.g ≤ length l.sizes) × (l.at + total (drop l.g l.sizes) ≡ length l.readings) × (length l.out ≡ length l.readings) × (length l.initial.out ≡ length l.readings)
+    (l.at + total (drop l.g l.sizes) ≡ length l.readings) × (length l.out ≡ length l.readings)
     × (putting l.means l.sizes l.readings l.g l.at l.out ≡ flatten (distances l.means (cut l.sizes l.readings)))
-
-abbrev pub decreases-loop-g : goal.decreases-loop-g
-decreases-loop-g l = length l.sizes - l.g

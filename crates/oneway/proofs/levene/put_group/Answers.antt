@@ -13,11 +13,11 @@ pub loop-i-init : goal.loop-i-init
 loop-i-init c =
     let f = distance c.args.mean in
     let n : length (map f c.args.group.now) ≡ length c.args.group.now = length-map c.args.group.now f in
-    (omega arith, c.requires, c.requires, fill_starts f c.args.group.now c.args.out.now (omega (arith, c.requires)) ∙ over_all (map f c.args.group.now) c.args.out.now (omega (arith, c.requires, n)))
+    (c.requires, fill_starts f c.args.group.now c.args.out.now (omega (arith, c.requires)) ∙ over_all (map f c.args.group.now) c.args.out.now (omega (arith, c.requires, n)))
 
 pub loop-i-preserved : goal.loop-i-preserved
 loop-i-preserved c =
-    (omega arith, simp length-set (omega arith), c.loop-i.invariant.2, fill_step _ _ nan c.loop-i.out c.loop-i.i _ c.loop-i.invariant.3 c.loop-i-test.true c.abs.ensures)
+    (rw length-set c.loop-i.invariant.0, fill_step _ _ nan c.loop-i.out c.loop-i.i _ c.loop-i.invariant.1 c.loop-i-test.true c.abs.ensures)
 
 pub returns : goal.returns
-returns c = fill_ends _ _ c.loop-i.out c.loop-i.i c.loop-i.invariant.3 c.loop-i-test.false
+returns c = fill_ends _ _ c.loop-i.out c.loop-i.i c.loop-i.invariant.1 c.loop-i-test.false

@@ -1,17 +1,13 @@
--- The columns with the weights beside them, read across, are the weighed rows (`weighed_lines`); the rest is the definition's operations in its order.
-use Rattle.oneway.proofs.Summaries.{long_with, weighed_lines}
-use Rattle.oneway.specs.Welch.{welch_anova}
+-- The first places hold the weighed rows; the rest is the definition's operations in its order.
+use Rattle.std.proofs.Common.{◌≡◌, length}
+use lib.ListN.{take, length-map}
+use lib.Seq.{take_at}
+use Rattle.oneway.specs.Welch.{all_weighed, welch_anova}
+use Rattle.oneway_rows.proofs.Counted.{sizes_added}
 use Rattle.oneway.proofs.welch.welch_anova.Goals as goal
-
-pub welch_sums-sums-requires : goal.welch_sums-sums-requires
-welch_sums-sums-requires c =
-    long_with c.args.s c.weights-w.result c.weights-w.ensures c.requires
-
-pub welch_test-test-requires : goal.welch_test-test-requires
-welch_test-test-requires c = c.requires.few
 
 pub returns : goal.returns
 unfolding welch_anova
-returns c rs e =
-    let l = weighed_lines c.args.s c.weights-w.result c.weights-w.ensures rs e in
-    rw (c.none.ensures, c.welch_test-test.ensures, c.welch_sums-sums.ensures, l, e)
+returns c =
+    let front : take (length c.args.rows.now) c.weigh_all-weighed.result ≡ all_weighed c.args.rows.now = rw c.weigh_all-weighed.ensures (take_at (all_weighed c.args.rows.now) _ _ (length-map _ _)) in
+    rw (c.none.ensures, c.welch_test-test.ensures, c.welch_sums.ensures, front, c.n_total.ensures, sizes_added c.args.rows.now, c.columns.ensures)

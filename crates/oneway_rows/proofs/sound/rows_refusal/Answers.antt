@@ -1,12 +1,22 @@
--- The test is the definition's.
-use mathlib.Core.Path.{sym, ◌∙◌}
-use Rattle.oneway_rows.specs.Soundness.{sound_refusal}
+-- The two tests are those of the definition, which joins them by "or" (`unsound_rows`).
+use Rattle.std.proofs.Common.{◌≡◌, true, false, refl, sym, ◌∙◌}
+use Rattle.oneway_rows.specs.Soundness.{sizes_in, unsound, sound_refusal}
+use Rattle.oneway_rows.proofs.Counted.{unsound_rows}
+use Rattle.oneway_rows.proofs.sound.rows_refusal.Goals.{then-outside-via-then-outside, then-outside-via-else-outside+then-unsound}
 use Rattle.oneway_rows.proofs.sound.rows_refusal.Goals as goal
 
-pub returns-then-unsound : goal.returns-then-unsound
+pub returns-then-outside : goal.returns-then-outside
 unfolding sound_refusal
-returns-then-unsound c = rw (sym c.unsound.ensures ∙ c.if-unsound.true) c.new.ensures
+returns-then-outside c =
+    let found : unsound c.args.k (sizes_in c.args.k c.args.rows) ≡ true =
+    elim c.then-outside.branch [
+      | then-outside-via-then-outside w ↦ sym (unsound_rows c.args.k c.args.rows) ∙ rw (sym c.outside.ensures ∙ w.if-outside.true)
+      | then-outside-via-else-outside+then-unsound w ↦ sym (unsound_rows c.args.k c.args.rows) ∙ rw (sym c.outside.ensures ∙ w.if-outside.false, sym w.unsound.ensures ∙ w.if-unsound.true)
+    ] in
+    rw (found, c.new.ensures)
 
 pub returns : goal.returns
 unfolding sound_refusal
-returns c = rw (sym c.unsound.ensures ∙ c.if-unsound.false) c.none.ensures
+returns c =
+    let none : unsound c.args.k (sizes_in c.args.k c.args.rows) ≡ false = sym (unsound_rows c.args.k c.args.rows) ∙ rw (sym c.outside.ensures ∙ c.if-outside.false, sym c.unsound.ensures ∙ c.if-unsound.false) in
+    rw none refl

@@ -4,12 +4,12 @@ use Rattle.sheet.specs.Sheets.{zero_places}
 use Rattle.sheet.proofs.Loaded.{load_refused, load_made}
 use Rattle.sheet.proofs.Sheet.load.Goals as goal
 
-pub returns-then-refusal-ne0 : goal.returns-then-refusal-ne0
+pub returns-in-Err : goal.returns-in-Err
 unfolding zero_places of_bits
-returns-then-refusal-ne0 c =
-    load_refused _ _ c.validate_anova_groups-stats.result c.validate_anova_groups-stats.ensures c.if-refusal-ne0.true
+returns-in-Err c =
+    load_refused _ _ c.validate_anova_groups-stats.result c.validate_anova_groups-stats.ensures c.check.ensures c.in-Err.is
 
 pub returns : goal.returns
 unfolding zero_places of_bits
 returns c =
-    load_made _ _ c.validate_anova_groups-stats.result c.validate_anova_groups-stats.ensures c.if-refusal-ne0.false c.put.ensures c.none.ensures
+    load_made _ _ c.validate_anova_groups-stats.result c.validate_anova_groups-stats.ensures c.check.ensures c.in_default.is c.put.ensures c.none.ensures

@@ -1,20 +1,22 @@
 -- An append asks what a replacement of the group's first reading asks, and then whether a place is free (`append_full`, where none is).
-use native.Mathlib.Omega.{arith}
+use Rattle.std.proofs.Common.{rules, ◌≡◌, length, ◌∙◌, arith}
 use borrow.Author.Tests.{lt-leb}
-use Rattle.sheet.proofs.Found.{small_ahead}
+use lib.ListN.{take}
+use Rattle.base.proofs.Order.{ends_there, asks_next, was_passed}
+use Rattle.oneway_rows.proofs.Counted.{sizes_added}
 use Rattle.sheet.specs.Calls.{Replace}
-use Rattle.sheet.proofs.Judged.{append_stops, append_goes_on, asked}
+use Rattle.sheet.proofs.Judged.{append_order, asked}
 use Rattle.sheet.proofs.checks.append_refusal.Goals as goal
 
-pub returns-then-refusal-ne0 : goal.returns-then-refusal-ne0
-returns-then-refusal-ne0 c =
-    append_stops c.args.k c.args.rows c.args.group c.args.x c.replace_refusal-refusal.ensures c.if-refusal-ne0.true
+pub returns-in_err-replace_refusal : goal.returns-in_err-replace_refusal
+returns-in_err-replace_refusal c = rw append_order (search rules ∙ ends_there _ _ c.replace_refusal.ensures c.in_err-replace_refusal.was)
 
 pub ahead-requires : goal.ahead-requires
 ahead-requires c =
-    small_ahead c.args.k c.args.rows c.args.k (omega arith) (asked (Replace c.args.group 0 c.args.x) c.args.k c.args.rows (rw c.replace_refusal-refusal.ensures at c.if-refusal-ne0.false)).0
+    let n : length c.args.rows ≡ 16 = search rules in
+    (omega (arith, n, asked (Replace c.args.group 0 c.args.x) c.args.k c.args.rows (was_passed _ _ c.replace_refusal.ensures c.in_ok-replace_refusal.was)), omega (arith, n))
 
 pub returns : goal.returns
 returns c =
-    append_goes_on c.args.k c.args.rows c.args.group c.args.x c.replace_refusal-refusal.ensures c.if-refusal-ne0.false
-    (rw (c.none.ensures, ← c.ahead.ensures, lt-leb 512 c.ahead.result (omega arith)))
+    let e = c.ahead.ensures ∙ sizes_added (take c.args.k c.args.rows) in
+    rw append_order (asks_next _ _ c.replace_refusal.ensures c.in_ok-replace_refusal.was (rw (← e, lt-leb 512 _ c.if-ahead-ge-PLACES.false)))

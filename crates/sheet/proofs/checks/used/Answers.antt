@@ -1,17 +1,21 @@
--- Sound rows are few and small enough to be added up.
-use mathlib.Core.Path.{refl}
-use Rattle.base.proofs.Order.{answers_refused, answers_numbers}
-use Rattle.oneway.proofs.Summaries.{small_sound}
-use Rattle.sheet.specs.Inner.{used_in}
+-- Sound rows are few enough to be added up.
+use Rattle.std.proofs.Common.{rules, ◌≡◌, length, take, sym, ◌∙◌, arith}
+use Rattle.base.proofs.Order.{passed_answer, refused_answer, was_passed, was_refused}
+use Rattle.oneway_rows.proofs.Counted.{sound, sizes_added}
+use Rattle.oneway_rows.specs.Soundness.{sound_refusal}
+use Rattle.sheet.specs.Inner.{used_in, no_use}
 use Rattle.sheet.proofs.checks.used.Goals as goal
 
-pub returns-then-refusal-ne0 : goal.returns-then-refusal-ne0
+pub returns-in-Err : goal.returns-in-Err
 unfolding used_in
-returns-then-refusal-ne0 c = answers_refused _ _ _ c.rows_refusal-refusal.ensures c.if-refusal-ne0.true refl
+returns-in-Err c = sym (refused_answer (sound_refusal c.args.k c.args.rows) no_use _ (was_refused _ tt c.rows_refusal.ensures c.in-Err.is).1)
+
+pub returns-in-Ok : goal.returns-in-Ok
+unfolding used_in
+returns-in-Ok c =
+    c.ahead.ensures ∙ sizes_added (take c.args.k c.args.rows) ∙ sym (passed_answer (sound_refusal c.args.k c.args.rows) no_use _ (was_passed _ tt c.rows_refusal.ensures c.in-Ok.is))
 
 pub ahead-requires : goal.ahead-requires
-ahead-requires c = small_sound _ _ (rw c.rows_refusal-refusal.ensures at c.if-refusal-ne0.false)
-
-pub returns : goal.returns
-unfolding used_in
-returns c = answers_numbers _ _ _ c.rows_refusal-refusal.ensures c.if-refusal-ne0.false c.ahead.ensures
+ahead-requires c =
+    let n : length c.args.rows ≡ 16 = search rules in
+    (omega (arith, n, sound _ _ (was_passed _ tt c.rows_refusal.ensures c.in-Ok.is)), omega (arith, n))
