@@ -1,28 +1,34 @@
 -- Laws of a test that is asked of readings: the search for one of which it holds, and lists in which it holds of none.
 use mathlib.Core.Path.{◌≡◌, refl, ◌∙◌}
 use mathlib.Core.List.{List, [], ◌∷◌, ◌++◌}
-use Rattle.std.specs.List.{fold}
-use mathlib.Core.Bool.{Bool, true, false, cond, ◌||◌}
-use Prim.Native.Nat.{ℕ, zero, suc, ◌+◌, ◌-◌}
-use lib.ListN.{get_or, length, take, drop, set}
-use lib.Seq.{take-append_seam, drop-append_seam}
-use lib.Ieee.{Float}
+use mathlib.Core.Bool.{Bool, true, false, cond}
+use Prim.Native.Nat.{ℕ, zero, suc, ◌+◌, ◌-◌, ◌<◌, ◌≤◌}
+use native.Mathlib.Numerals.{add-one}
+use lib.ListN.{get_or, length, take, drop, set, drop_of_length-le}
+use lib.Seq.{drop-cons, take-append_seam, drop-append_seam}
+use lib.Ieee.{Float, nan}
 use Rattle.base.proofs.Searches.{here}
 use Rattle.stats.specs.Sums.{some}
 
 module _ (test : Float → Bool) where
-  -- a fold that asks every reading finds what the search does
-  module _ (asked : Float → Bool) (same : (x : Float) → asked x ≡ test x) where
-    pub fold_finds : (found : Bool) (xs : List Float) → fold (λ (b : Bool) (x : Float). b || asked x) found xs ≡ (found || some test xs)
+  -- the search looks at every reading: what was found before i, or else what is from i on
+  module _ (xs : List Float) where
+    abbrev pub Found : Bool → ℕ → Type 0
+    Found found i = cond found true (some test (drop i xs)) ≡ some test xs
+
+    pub found_here : (found : Bool) (i : ℕ) → Found found i → i < length xs → test (get_or xs i nan) ≡ true → Found true (i + 1)
     unfolding some
-    fold_finds true [] = refl
-    fold_finds false [] = refl
-    fold_finds found (x ∷ xs) = fold_finds (found || asked x) xs ∙ (rw (same x) (cases found (test x)))
-      where
-        cases : (b c : Bool) → ((b || c) || some test xs) ≡ (b || cond c true (some test xs))
-        cases true c = refl
-        cases false true = refl
-        cases false false = refl
+    found_here true i e h t = e
+    found_here false i e h t = rw (drop-cons xs i nan h, t) at e
+
+    pub found_further : (found : Bool) (i : ℕ) → Found found i → i < length xs → test (get_or xs i nan) ≡ false → Found found (i + 1)
+    unfolding some
+    found_further found i e h t = rw add-one (rw (drop-cons xs i nan h, t) at e)
+
+    pub found_told : (found : Bool) (i : ℕ) → Found found i → length xs ≤ i → found ≡ some test xs
+    unfolding some
+    found_told true i e h = e
+    found_told false i e h = rw (drop_of_length-le xs h) at e
 
   -- where it holds of none, it holds of none in a part
   pub none_from : (x : Float) (xs : List Float) → some test (x ∷ xs) ≡ false → (test x ≡ false) × (some test xs ≡ false)

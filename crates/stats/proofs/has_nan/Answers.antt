@@ -1,14 +1,21 @@
--- Every reading is asked whether it differs from itself, and a NaN alone does.
-use Rattle.std.proofs.Common.{rules, Bool, false, ◌∙◌}
-use Rattle.std.proofs.lemmas.Iterator.{YieldsList-from_slice}
-use Rattle.std.proofs.lemmas.Iterator.Consumers.{fold_from_yields_List}
-use mathlib.Core.Bool.{◌||◌}
-use lib.Ieee.{Float, ne, is_nan}
+-- What was found before place i, or else what stands from i on, is what the whole list has. Behind the last reading nothing stands.
+use mathlib.Core.Path.{sym, ◌∙◌}
+use lib.Ieee.{nan, is_nan}
+use lib.ListN.{get_or}
 use Rattle.float.proofs.Nans.{ne_self}
-use Rattle.stats.proofs.Finding.{fold_finds}
+use Rattle.stats.proofs.Finding.{found_here, found_further, found_told}
 use Rattle.stats.proofs.has_nan.Goals as goal
+use Rattle.stats.proofs.has_nan.Goals.{then-x, else-x}
+
+pub loop-x-preserved : goal.loop-x-preserved
+loop-x-preserved c =
+    let xs = c.args.readings.now in
+    let i = c.loop-x.x-index in
+    elim c.if-x.branch [
+      | then-x w ↦ rw w.found-is (found_here is_nan xs c.loop-x.found i c.loop-x.invariant c.loop-x-test.true (sym (ne_self (get_or xs i nan)) ∙ w.if-x.true))
+      | else-x w ↦ rw w.found-is (found_further is_nan xs c.loop-x.found i c.loop-x.invariant c.loop-x-test.true (sym (ne_self (get_or xs i nan)) ∙ w.if-x.false))
+    ]
 
 pub returns : goal.returns
 returns c =
-    fold_from_yields_List _ (λ (b : Bool) (x : Float). b || ne x x) false c.fold.result c.fold.ensures.ran (YieldsList-from_slice c.args.readings.now cc) (λ a x b q k. search rules)
-    ∙ fold_finds is_nan (λ x. ne x x) ne_self false c.args.readings.now
+    found_told is_nan c.args.readings.now c.loop-x.found c.loop-x.x-index c.loop-x.invariant c.loop-x-test.false
