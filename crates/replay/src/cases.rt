@@ -1,5 +1,5 @@
 // A case: its head, and the lists behind it.
-ghost use Rattle.std.specs.Prelude.{◌≤◌};
+ghost use Rattle.std.specs.Prelude.{◌<◌, ◌≤◌};
 
 use crate::kinds;
 use crate::kinds::Kind;
@@ -101,13 +101,17 @@ pub fn answer(out: &mut Out, bytes: &[u8], h: Head) {
 
 // A number as bytes, the lowest first.
 trait Stored {
-    const BYTES: usize;
+    // How many bytes it has.
+    fn width() -> usize
+        ensures { 0 < result };
 
     fn of_bytes(bytes: &[u8]) -> Self;
 }
 
 impl Stored for u32 {
-    const BYTES: usize = 4;
+    fn width() -> usize {
+        4
+    }
 
     fn of_bytes(bytes: &[u8]) -> u32 {
         match bytes {
@@ -118,7 +122,9 @@ impl Stored for u32 {
 }
 
 impl Stored for f64 {
-    const BYTES: usize = 8;
+    fn width() -> usize {
+        8
+    }
 
     fn of_bytes(bytes: &[u8]) -> f64 {
         match bytes {
@@ -131,8 +137,8 @@ impl Stored for f64 {
 }
 
 // The numbers that these bytes hold go to the first places of a list.
-fn read<T: Stored>(bytes: &[u8], list: &mut [T]) {
-    for (place, held) in list.iter_mut().zip(bytes.chunks_exact(T::BYTES)) {
+fn read<T: Stored + Copy>(bytes: &[u8], list: &mut [T]) {
+    for (place, held) in list.iter_mut().zip(bytes.chunks_exact(T::width())) {
         *place = T::of_bytes(held);
     }
 }

@@ -4,6 +4,7 @@ use base::Refusal;
 use std::io::{Print, Stdout};
 
 // The answers that are not yet written, in the front of a buffer.
+#[derive(Drop)]
 pub struct Out<'a> {
     bytes: &'a mut [u8],
     used: usize,
@@ -89,7 +90,8 @@ impl<'a> Out<'a> {
             return;
         }
         if self.used <= self.bytes.len() {
-            let _ = output.write_all(&self.bytes[..self.used]);
+            let used = self.used;
+            let _ = output.write_all(&self.bytes[..used]);
         }
         self.used = 0;
     }

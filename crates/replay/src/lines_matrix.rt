@@ -1,21 +1,24 @@
 // Printed lines of matrices. Where the option is out of range or the number of readings does not fit it, the line is `bad case`.
-ghost use Rattle.std.specs.Prelude.{◌<◌, ◌≤◌, ◌*◌, IfSome};
+ghost use Rattle.std.specs.Prelude.{◌≡◌, ◌<◌, ◌≤◌, ◌+◌, ◌*◌, length, IfSome};
 
 use crate::cases::Case;
 use crate::lines::Out;
 use matrix_linear::Elimination;
 
-// Room for 24 rows of 48 places, for 11 rows of 11, and for 11 rows of 12.
-const LONG: usize = 1152;
+// The most rows that are made orthonormal or decomposed: one less than conditions.
+const MOST: usize = base::MOST_CONDITIONS - 1;
 
-const SQUARE: usize = 121;
+// Room for 24 rows of 48 places.
+const LONG: usize = 24 * 48;
 
-const ORTHONORMAL: usize = 132;
+const SQUARE: usize = MOST * MOST;
+
+const ORTHONORMAL: usize = MOST * base::MOST_CONDITIONS;
 
 // The number of rows n that the option says, where it is at most `most` and n rows of n + extra places are as many as the readings.
 fn side(case: &Case, most: usize, extra: usize) -> Option<usize>
     requires { (most ≤ 24) × (extra ≤ 1) }
-    ensures { IfSome result (λ n. (0 < n) × (n ≤ most)) }
+    ensures { IfSome result (λ n. (0 < n) × (n ≤ most) × (length case.now.readings.now ≡ n * (n + extra))) }
 {
     let n = case.option as usize;
     if (1..=most).contains(&n) && case.readings.len() == n * (n + extra) {
@@ -98,7 +101,7 @@ pub fn eigenvalues(out: &mut Out, case: &Case) {
         None => out.bad_case(),
         Some(n) => {
             let mut m = [0.0; SQUARE];
-            let mut values = [0.0; matrix_places::MOST_CONTRASTS];
+            let mut values = [0.0; MOST];
             copy(&mut m, case.readings);
             matrix_eigen::compute_eigenvalues(&mut m, n, &mut values);
             out.firsts(b"eigenvalues@\n", n, &values);
