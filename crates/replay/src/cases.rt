@@ -1,5 +1,5 @@
 // A case: its head, and the lists behind it.
-ghost use Rattle.std.specs.Prelude.{◌<◌, ◌≤◌};
+ghost use Rattle.std.specs.Prelude.{◌≡◌, ◌+◌, ◌*◌, ◌<◌, ◌≤◌};
 
 use crate::kinds;
 use crate::kinds::Kind;
@@ -56,7 +56,9 @@ impl Head {
     }
 
     // How many bytes the case has.
-    pub fn length(&self) -> usize {
+    pub fn length(&self) -> usize
+        ensures { result ≡ 24 + 4 * (self.now.ns + self.now.na + self.now.nb) + 8 * self.now.nr }
+    {
         HEAD + 4 * (self.ns + self.na + self.nb) + 8 * self.nr
     }
 }

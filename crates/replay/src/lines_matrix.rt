@@ -53,7 +53,9 @@ pub fn solve(out: &mut Out, case: &Case, skips: bool) {
             let (matrix, sides) = case.readings.split_at(n * n);
             for ((row, given), y) in m.chunks_exact_mut(n + 1).zip(matrix.chunks_exact(n)).zip(sides) {
                 copy(row, given);
-                row[n] = *y;
+                if let Some(last) = row.last_mut() {
+                    *last = *y;
+                }
             }
             let e = matrix_linear::solve_linear_system(&mut m, n);
             right(out, b"solve", &m, n, n + 1);
