@@ -1,130 +1,140 @@
-// Printed lines of matrices, kinds 11 to 16, and 23 and 24, which are 11 and 12 with the columns that were skipped. Where the option is out of range or the number of readings does not fit it, the line is `bad case`.
-ghost use Rattle.std.specs.Prelude.{◌≤◌};
+// Printed lines of matrices. Where the option is out of range or the number of readings does not fit it, the line is `bad case`.
+ghost use Rattle.std.specs.Prelude.{◌≡◌, ◌<◌, ◌≤◌, ◌+◌, ◌*◌, length, IfSome};
 
-use crate::lines;
+use crate::cases::Case;
 use crate::lines::Out;
-use crate::matrix_blocks::{Block, lay, lay_row, put, side};
 use matrix_linear::Elimination;
 
-pub fn solve(out: &mut Out, at: usize, kind: u32, option: u32, readings: &[f64]) -> usize {
-    let n = side(option, 23, 1, readings.len());
-    if n == 0 {
-        return lines::bad_case(out, at);
+// The most rows that are made orthonormal or decomposed: one less than conditions.
+const MOST: usize = base::MOST_CONDITIONS - 1;
+
+// Room for 24 rows of 48 places.
+const LONG: usize = 24 * 48;
+
+const SQUARE: usize = MOST * MOST;
+
+const ORTHONORMAL: usize = MOST * base::MOST_CONDITIONS;
+
+// The number of rows n that the option says, where it is at most `most` and n rows of n + extra places are as many as the readings.
+fn side(case: &Case, most: usize, extra: usize) -> Option<usize>
+    requires { (most ≤ 24) × (extra ≤ 1) }
+    ensures { IfSome result (λ n. (0 < n) × (n ≤ most) × (length case.now.readings.now ≡ n * (n + extra))) }
+{
+    let n = case.option as usize;
+    if (1..=most).contains(&n) && case.readings.len() == n * (n + extra) {
+        return Some(n);
     }
-    let matrix = Block {
-        start: 0,
-        apart: n + 1,
-        rows: n,
-        columns: n,
-    };
-    let right = Block {
-        start: n,
-        apart: n + 1,
-        rows: n,
-        columns: 1,
-    };
-    let mut m = [0.0; 1152];
-    lay(&mut m, matrix, readings, 0);
-    lay(&mut m, right, readings, n * n);
-    let e = matrix_linear::solve_linear_system(&mut m, n);
-    let next = put(out, at, b"solve", &m, right);
-    skipped(out, next, kind, e)
+    None
 }
 
-pub fn inverse(out: &mut Out, at: usize, kind: u32, option: u32, readings: &[f64]) -> usize {
-    let n = side(option, 24, 0, readings.len());
-    if n == 0 {
-        return lines::bad_case(out, at);
+// As many numbers as both have.
+fn copy(to: &mut [f64], from: &[f64]) {
+    for (place, x) in to.iter_mut().zip(from) {
+        *place = *x;
     }
-    let left = Block {
-        start: 0,
-        apart: 2 * n,
-        rows: n,
-        columns: n,
-    };
-    let right = Block {
-        start: n,
-        apart: 2 * n,
-        rows: n,
-        columns: n,
-    };
-    let mut m = [0.0; 1152];
-    lay(&mut m, left, readings, 0);
-    let e = matrix_linear::matrix_inverse(&mut m, n);
-    let next = put(out, at, b"inverse", &m, right);
-    skipped(out, next, kind, e)
 }
 
-// How many columns were skipped, in kinds 23 and 24.
-fn skipped(out: &mut Out, at: usize, kind: u32, e: Elimination) -> usize {
-    if kind < 23 {
-        return at;
+// The part from column n on of each of n rows of w places.
+fn right(out: &mut Out, name: &[u8], m: &[f64], n: usize, w: usize)
+    requires { (0 < w) × (n ≤ w) }
+{
+    out.put(name);
+    for row in m.chunks_exact(w).take(n) {
+        out.each(&row[n..]);
     }
-    lines::numbers(out, at, b"skippedA\n", [e.skipped as u64; 3], [0.0; 10])
+    out.put(b"\n");
 }
 
-pub fn determinant(out: &mut Out, at: usize, option: u32, readings: &[f64]) -> usize {
-    let n = side(option, 11, 0, readings.len());
-    if n == 0 {
-        return lines::bad_case(out, at);
+pub fn solve(out: &mut Out, case: &Case, skips: bool) {
+    match side(case, 23, 1) {
+        None => out.bad_case(),
+        Some(n) => {
+            let mut m = [0.0; LONG];
+            let (matrix, sides) = case.readings.split_at(n * n);
+            for ((row, given), y) in m.chunks_exact_mut(n + 1).zip(matrix.chunks_exact(n)).zip(sides) {
+                copy(row, given);
+                if let Some(last) = row.last_mut() {
+                    *last = *y;
+                }
+            }
+            let e = matrix_linear::solve_linear_system(&mut m, n);
+            right(out, b"solve", &m, n, n + 1);
+            skipped(out, skips, e);
+        }
     }
-    let mut m = [0.0; 1152];
-    lay_row(&mut m, 0, n * n, readings, 0);
-    let d = matrix_linear::matrix_determinant(&mut m, n);
-    lines::numbers(out, at, b"determinant0\n", [0; 3], [d; 10])
 }
 
-pub fn eigenvalues(out: &mut Out, at: usize, option: u32, readings: &[f64]) -> usize {
-    let n = side(option, 11, 0, readings.len());
-    if n == 0 {
-        return lines::bad_case(out, at);
+pub fn inverse(out: &mut Out, case: &Case, skips: bool) {
+    match side(case, 24, 0) {
+        None => out.bad_case(),
+        Some(n) => {
+            let mut m = [0.0; LONG];
+            for (row, given) in m.chunks_exact_mut(2 * n).zip(case.readings.chunks_exact(n)) {
+                copy(row, given);
+            }
+            let e = matrix_linear::matrix_inverse(&mut m, n);
+            right(out, b"inverse", &m, n, 2 * n);
+            skipped(out, skips, e);
+        }
     }
-    let mut m = [0.0; 121];
-    let mut values = [0.0; 11];
-    lay_row(&mut m, 0, n * n, readings, 0);
-    matrix_eigen::compute_eigenvalues(&mut m, n, &mut values);
-    lines::firsts(out, at, b"eigenvalues@\n", n, &values)
+}
+
+// How many columns were skipped, where it is asked for.
+fn skipped(out: &mut Out, skips: bool, e: Elimination) {
+    if skips {
+        out.form(b"skippedA\n", &[e.skipped as u64], &[]);
+    }
+}
+
+pub fn determinant(out: &mut Out, case: &Case) {
+    match side(case, 11, 0) {
+        None => out.bad_case(),
+        Some(n) => {
+            let mut m = [0.0; LONG];
+            copy(&mut m, case.readings);
+            let d = matrix_linear::matrix_determinant(&mut m, n);
+            out.form(b"determinant0\n", &[], &[d]);
+        }
+    }
+}
+
+pub fn eigenvalues(out: &mut Out, case: &Case) {
+    match side(case, 11, 0) {
+        None => out.bad_case(),
+        Some(n) => {
+            let mut m = [0.0; SQUARE];
+            let mut values = [0.0; MOST];
+            copy(&mut m, case.readings);
+            matrix_eigen::compute_eigenvalues(&mut m, n, &mut values);
+            out.firsts(b"eigenvalues@\n", n, &values);
+        }
+    }
 }
 
 // Q by rows, then R by rows. The option is the number of rows.
-pub fn qr(out: &mut Out, at: usize, option: u32, readings: &[f64]) -> usize {
-    let n = side(option, 11, 0, readings.len());
-    if n == 0 {
-        return lines::bad_case(out, at);
+pub fn qr(out: &mut Out, case: &Case) {
+    match side(case, 11, 0) {
+        None => out.bad_case(),
+        Some(n) => {
+            let mut q = [0.0; SQUARE];
+            let mut r = [0.0; SQUARE];
+            matrix_eigen::qr_decomposition(case.readings, n, &mut q, &mut r);
+            out.firsts(b"qr@", n * n, &q);
+            out.firsts(b"@\n", n * n, &r);
+        }
     }
-    let mut q = [0.0; 121];
-    let mut r = [0.0; 121];
-    matrix_eigen::qr_decomposition(readings, n, &mut q, &mut r);
-    let next = lines::firsts(out, at, b"qr@", n * n, &q);
-    lines::firsts(out, next, b"@\n", n * n, &r)
 }
 
-// The option is 16 p + k, for p rows of k places.
-pub fn orthonormalize(out: &mut Out, at: usize, option: u32, readings: &[f64]) -> usize {
-    let p = (option / 16) as usize;
-    let k = (option % 16) as usize;
-    let count = taken(p, k, readings.len());
-    if count == 0 {
-        return lines::bad_case(out, at);
+// The option is 16 p + k, for p rows of k places: at most 11 of at most 12.
+pub fn orthonormalize(out: &mut Out, case: &Case) {
+    let p = (case.option / 16) as usize;
+    let k = (case.option % 16) as usize;
+    let count = case.readings.len();
+    if count == 0 || p > 11 || k > 12 || count != p * k {
+        return out.bad_case();
     }
-    let mut c = [0.0; 132];
-    lay_row(&mut c, 0, count, readings, 0);
+    let mut c = [0.0; ORTHONORMAL];
+    copy(&mut c, case.readings);
     matrix_orthonormal::orthonormalize(&mut c, p, k);
-    lines::firsts(out, at, b"orthonormalize@\n", count, &c)
-}
-
-// How many readings there are, where they are p rows of k places, at most 11 of at most 12; 0 otherwise.
-fn taken(p: usize, k: usize, count: usize) -> usize
-    ensures { result ≤ 132 }
-{
-    if p > 11 {
-        return 0;
-    }
-    if k > 12 {
-        return 0;
-    }
-    if count != p * k {
-        return 0;
-    }
-    count
+    out.firsts(b"orthonormalize@\n", count, &c);
 }

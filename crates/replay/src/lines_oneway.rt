@@ -1,50 +1,24 @@
-// Printed lines of one-way analysis: kind 3 is Fisher's, 4 Welch's, 18 Levene's, 9 the view of one group.
-ghost use Rattle.std.specs.Prelude.{◌≤◌};
-
-use crate::lines;
+// Printed lines of one-way analysis: Fisher's, Welch's and Levene's, and the view of one group.
+use crate::cases::Case;
 use crate::lines::Out;
 use oneway::AnovaKind;
 use results::OneWayAnovaResult;
 
-pub fn analysis(out: &mut Out, at: usize, kind: u32, sizes: &[u32], readings: &[f64]) -> usize {
-    match kind {
-        3 => fisher(
-            out,
-            at,
-            oneway::one_way_anova(readings, sizes, AnovaKind::Fisher),
-        ),
-        4 => welch(
-            out,
-            at,
-            oneway::one_way_anova(readings, sizes, AnovaKind::Welch),
-        ),
-        _ => levene(
-            out,
-            at,
-            oneway::one_way_anova(readings, sizes, AnovaKind::Levene),
-        ),
+pub fn analysis(out: &mut Out, kind: AnovaKind, case: &Case) {
+    let r = oneway::one_way_anova(case.readings, case.sizes, kind);
+    report(out, kind, r);
+}
+
+// The lines of an answer: the numbers that the kind's form asks for, and the groups.
+pub fn report(out: &mut Out, kind: AnovaKind, r: OneWayAnovaResult) {
+    if let Err(refusal) = r.refusal.check() {
+        return out.refused(refusal);
     }
-}
-
-pub fn fisher(out: &mut Out, at: usize, r: OneWayAnovaResult) -> usize {
-    report(out, at, b"fisherAB\nss012\ndf34\nms56\nf7\ngrand8\n", r)
-}
-
-pub fn welch(out: &mut Out, at: usize, r: OneWayAnovaResult) -> usize {
-    report(out, at, b"welchAB\ndf34\nf7\n", r)
-}
-
-pub fn levene(out: &mut Out, at: usize, r: OneWayAnovaResult) -> usize {
-    report(out, at, b"leveneAB\nss012\ndf34\nms56\nf7\ngrand8\n", r)
-}
-
-// The lines of an answer: the numbers that the form asks for, and the groups.
-fn report(out: &mut Out, at: usize, form: &[u8], r: OneWayAnovaResult) -> usize {
-    let refusal = r.refusal;
-    if refusal.number != 0 {
-        return lines::refused(out, at, refusal);
-    }
-    let counts = [r.n_groups as u64, r.n_total as u64, 0];
+    let form: &[u8] = match kind {
+        AnovaKind::Fisher => b"fisherAB\nss012\ndf34\nms56\nf7\ngrand8\n",
+        AnovaKind::Welch => b"welchAB\ndf34\nf7\n",
+        AnovaKind::Levene => b"leveneAB\nss012\ndf34\nms56\nf7\ngrand8\n",
+    };
     let doubles = [
         r.ss_between,
         r.ss_within,
@@ -55,43 +29,28 @@ fn report(out: &mut Out, at: usize, form: &[u8], r: OneWayAnovaResult) -> usize 
         r.ms_within,
         r.statistic,
         r.grand_mean,
-        0.0,
     ];
-    let next = lines::numbers(out, at, form, counts, doubles);
+    out.form(form, &[r.n_groups as u64, r.n_total as u64], &doubles);
+    if base::MOST_GROUPS < r.n_groups {
+        return;
+    }
     let sizes = r.group_sizes;
     let means = r.group_means;
-    groups(out, next, r.n_groups, sizes, means)
+    out.put(b"sizes");
+    for size in &sizes[..r.n_groups] {
+        out.count(*size as u64);
+    }
+    out.firsts(b"\nmeans@\n", r.n_groups, &means);
 }
 
-// The sizes and the means of the n groups.
-fn groups(out: &mut Out, at: usize, n: usize, sizes: [u32; 16], means: [f64; 16]) -> usize {
-    if n > 16 {
-        return at;
+// The view of the group that the option says.
+pub fn view(out: &mut Out, case: &Case) {
+    let g = case.option as usize;
+    match oneway_checks::group_refusal(case.readings, case.sizes, g) {
+        Err(r) => out.refused(r),
+        Ok(()) => {
+            let group = oneway_checks::group(case.readings, case.sizes, g);
+            out.form(b"viewA@\n", &[group.len() as u64], group);
+        }
     }
-    let named = text::put(out, at, b"sizes");
-    let next = each_size(out, named, n, sizes);
-    lines::firsts(out, next, b"\nmeans@\n", n, &means)
-}
-
-fn each_size(out: &mut Out, at: usize, n: usize, sizes: [u32; 16]) -> usize
-    requires { n ≤ 16 }
-{
-    let mut next = at;
-    let mut g = 0;
-    while g < n {
-        next = lines::count(out, next, sizes[g] as u64);
-        g += 1;
-    }
-    next
-}
-
-// Kind 9: the view of one group.
-pub fn view(out: &mut Out, at: usize, option: u32, sizes: &[u32], readings: &[f64]) -> usize {
-    let g = option as usize;
-    let r = oneway_checks::group_refusal(readings, sizes, g);
-    if r.number != 0 {
-        return lines::refused(out, at, r);
-    }
-    let group = oneway_checks::group(readings, sizes, g);
-    lines::list(out, at, b"viewA@\n", [group.len() as u64; 3], group)
 }

@@ -1,96 +1,58 @@
-// Printed lines of repeated measures: kind 6.
-use crate::lines;
+// Printed lines of repeated measures.
+use crate::cases::Case;
 use crate::lines::Out;
 use repeated::RmAnovaResult;
 
-pub fn repeated_measures(
-    out: &mut Out,
-    at: usize,
-    option: u32,
-    sizes: &[u32],
-    readings: &[f64],
-) -> usize {
-    let r = repeated::repeated_measures_anova(readings, sizes, option == 1);
-    let refusal = r.refusal;
-    if refusal.number != 0 {
-        return lines::refused(out, at, refusal);
+pub fn repeated_measures(out: &mut Out, case: &Case) {
+    let r = repeated::repeated_measures_anova(case.readings, case.sizes, case.option == 1);
+    if let Err(refusal) = r.refusal.check() {
+        return out.refused(refusal);
     }
-    let after_table = table_lines(out, at, r);
     let conditions = r.condition_means;
     let subjects = r.subject_means;
-    let after_conditions = conditions_line(out, after_table, r.n_conditions, conditions);
-    let after_means = subjects_line(out, after_conditions, r.n_subjects, subjects);
-    sphericity_lines(out, after_means, r)
+    table_lines(out, r);
+    out.firsts(b"condition_means@\n", r.n_conditions, &conditions);
+    out.firsts(b"subject_means@\n", r.n_subjects, &subjects);
+    if r.has_sphericity {
+        sphericity_lines(out, r);
+    }
 }
 
-fn table_lines(out: &mut Out, at: usize, r: RmAnovaResult) -> usize {
+fn table_lines(out: &mut Out, r: RmAnovaResult) {
     let w = r.within_subjects;
     let s = r.subjects;
-    let next = lines::numbers(
-        out,
-        at,
+    out.form(
         b"repeatedAB\nconditions0123\nsubjects456\n",
-        [r.n_subjects as u64, r.n_conditions as u64, 0],
-        [w.ss, w.df, w.ms, w.f, s.ss, s.df, s.ms, 0.0, 0.0, 0.0],
+        &[r.n_subjects as u64, r.n_conditions as u64],
+        &[w.ss, w.df, w.ms, w.f, s.ss, s.df, s.ms],
     );
     let e = r.error;
     let t = r.total;
-    lines::numbers(
-        out,
-        next,
+    out.form(
         b"error012\ntotal345\ngrand6\n",
-        [0; 3],
-        [
-            e.ss,
-            e.df,
-            e.ms,
-            t.ss,
-            t.df,
-            t.ms,
-            r.grand_mean,
-            0.0,
-            0.0,
-            0.0,
+        &[],
+        &[e.ss, e.df, e.ms, t.ss, t.df, t.ms, r.grand_mean],
+    );
+}
+
+fn sphericity_lines(out: &mut Out, r: RmAnovaResult) {
+    let s = r.sphericity;
+    let gg = r.greenhouse_geisser;
+    let hf = r.huynh_feldt;
+    out.form(
+        b"sphericity01\ngg2345\nhf6789\n",
+        &[],
+        &[
+            s.w,
+            s.df,
+            gg.epsilon,
+            gg.df_num_corrected,
+            gg.df_den_corrected,
+            gg.f_statistic,
+            hf.epsilon,
+            hf.df_num_corrected,
+            hf.df_den_corrected,
+            hf.f_statistic,
         ],
-    )
-}
-
-fn conditions_line(
-    out: &mut Out,
-    at: usize,
-    k: usize,
-    means: [f64; base::MOST_CONDITIONS],
-) -> usize {
-    lines::firsts(out, at, b"condition_means@\n", k, &means)
-}
-
-fn subjects_line(out: &mut Out, at: usize, n: usize, means: [f64; base::MOST_SUBJECTS]) -> usize {
-    lines::firsts(out, at, b"subject_means@\n", n, &means)
-}
-
-fn sphericity_lines(out: &mut Out, at: usize, r: RmAnovaResult) -> usize {
-    if r.has_sphericity {
-        let s = r.sphericity;
-        let gg = r.greenhouse_geisser;
-        let hf = r.huynh_feldt;
-        return lines::numbers(
-            out,
-            at,
-            b"sphericity01\ngg2345\nhf6789\n",
-            [0; 3],
-            [
-                s.w,
-                s.df,
-                gg.epsilon,
-                gg.df_num_corrected,
-                gg.df_den_corrected,
-                gg.f_statistic,
-                hf.epsilon,
-                hf.df_num_corrected,
-                hf.df_den_corrected,
-                hf.f_statistic,
-            ],
-        );
-    }
-    at
+    );
 }

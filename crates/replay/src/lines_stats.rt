@@ -1,43 +1,31 @@
-// Printed lines of the ground: kinds 1 and 2 are the mean and the variance of the readings, 8 the square root of each, 17 a power of one.
-use crate::lines;
+// Printed lines of the ground: the mean and the variance of the readings, the square root of each, a power of one.
+use crate::cases::Case;
 use crate::lines::Out;
 use stats::Figure;
 
 // The largest exponent.
 const MOST_POWER: u32 = 11;
 
-pub fn figure(out: &mut Out, at: usize, kind: u32, readings: &[f64]) -> usize {
-    if kind == 1 {
-        return value(out, at, b"mean0\n", stats::mean(readings));
+pub fn figure(out: &mut Out, form: &[u8], f: Figure) {
+    match f.refusal.check() {
+        Err(r) => out.refused(r),
+        Ok(()) => out.form(form, &[], &[f.value]),
     }
-    value(out, at, b"variance0\n", stats::variance(readings))
 }
 
-fn value(out: &mut Out, at: usize, form: &[u8], f: Figure) -> usize {
-    let r = f.refusal;
-    if r.number != 0 {
-        return lines::refused(out, at, r);
+pub fn roots(out: &mut Out, readings: &[f64]) {
+    out.put(b"root");
+    for x in readings {
+        out.double(root::sqrt(*x));
     }
-    lines::numbers(out, at, form, [0; 3], [f.value; 10])
+    out.put(b"\n");
 }
 
-pub fn roots(out: &mut Out, at: usize, readings: &[f64]) -> usize {
-    let mut next = text::put(out, at, b"root");
-    let mut i = 0;
-    while i < readings.len() {
-        next = lines::double(out, next, root::sqrt(readings[i]));
-        i += 1;
+pub fn power(out: &mut Out, case: &Case) {
+    match case.readings {
+        [x] if case.option <= MOST_POWER => {
+            out.form(b"powi0\n", &[], &[float::power(*x, case.option)])
+        }
+        _ => out.bad_case(),
     }
-    text::put(out, next, b"\n")
-}
-
-pub fn power(out: &mut Out, at: usize, option: u32, readings: &[f64]) -> usize {
-    if MOST_POWER < option {
-        return lines::bad_case(out, at);
-    }
-    if readings.len() != 1 {
-        return lines::bad_case(out, at);
-    }
-    let x = float::power(readings[0], option);
-    lines::numbers(out, at, b"powi0\n", [0; 3], [x; 10])
 }

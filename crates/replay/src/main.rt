@@ -10,12 +10,10 @@ mod lines_repeated;
 mod lines_sheet;
 mod lines_stats;
 mod lines_twoway;
-mod lists;
-mod matrix_blocks;
 mod stream;
 
 fn main(rt: HostRuntime) {
     let mut buffer = [0u8; 65536];
-    let mut out = [0u8; 65536];
-    stream::run(rt.stdin(), rt.stdout(), &mut buffer, &mut out);
+    let mut answers = [0u8; 65536];
+    stream::run(rt.stdin(), rt.stdout(), &mut buffer, lines::Out::new(&mut answers));
 }

@@ -1,11 +1,7 @@
--- A turn keeps the marks within the buffer (`Inside`), and each takes one of the turns that are left.
-use mathlib.Core.Path.{◌≡◌}
+-- The bytes that are not yet answered lie in the buffer.
+use Rattle.std.proofs.Common.{length}
 use Rattle.replay.specs.Streams.{Inside}
-use lib.ListN.{length}
 use Rattle.replay.proofs.stream.run.Given as goal
 
-abbrev pub invariant-loop-turns : goal.invariant-loop-turns
-invariant-loop-turns l = Inside l.s (length l.buffer) × (length l.buffer ≡ length l.initial.buffer)
-
-abbrev pub decreases-loop-turns : goal.decreases-loop-turns
-decreases-loop-turns l = l.turns
+abbrev pub invariant-loop : goal.invariant-loop
+invariant-loop l = Inside l.held (length l.buffer)

@@ -1,9 +1,0 @@
--- There are 512 places, and each is looked at once.
-use Prim.Native.Nat.{◌≤◌, ◌-◌}
-use Rattle.replay.proofs.lines_sheet.used.Given as goal
-
-abbrev pub invariant-loop-i : goal.invariant-loop-i
-invariant-loop-i l = l.i ≤ 512
-
-abbrev pub decreases-loop-i : goal.decreases-loop-i
-decreases-loop-i l = 512 - l.i
