@@ -295,19 +295,27 @@ pub extern "C" fn call_group(readings: &[f64], sizes: &[u32], g: usize) -> usize
     view.len()
 }
 
+// The number of a refusal; 0 where there is none.
+fn number_of<T: Drop>(told: Result<T, Refusal>) -> u32 {
+    match told {
+        Ok(_) => 0,
+        Err(refusal) => refusal.number,
+    }
+}
+
 #[unsafe(no_mangle)]
 pub extern "C" fn call_group_refusal(readings: &[f64], sizes: &[u32], g: usize) -> u32 {
-    oneway_checks::group_refusal(readings, sizes, g).number
+    number_of(oneway_checks::group_refusal(readings, sizes, g))
 }
 
 #[unsafe(no_mangle)]
 pub extern "C" fn call_one_way_refusal(readings: &[f64], sizes: &[u32]) -> u32 {
-    oneway_checks::one_way_refusal(readings, sizes).number
+    number_of(oneway_checks::one_way_refusal(readings, sizes))
 }
 
 #[unsafe(no_mangle)]
 pub extern "C" fn call_repeated_refusal(readings: &[f64], sizes: &[u32]) -> u32 {
-    repeated_checks::repeated_refusal(readings, sizes).number
+    number_of(repeated_checks::repeated_refusal(readings, sizes))
 }
 
 #[unsafe(no_mangle)]
@@ -317,17 +325,18 @@ pub extern "C" fn call_check_two_way_data(
     b: &[u32],
     lent: usize,
 ) -> u32 {
-    let d = twoway_checks::check_two_way_data(values, a, b, lent);
-    let refusal = d.refusal;
-    refusal.number
+    number_of(twoway_checks::check_two_way_data(values, a, b, lent))
 }
 
 #[unsafe(no_mangle)]
 pub extern "C" fn call_read_set(set: &[u8], i: usize) -> f64 {
-    let r = set::read_set(set);
-    let readings = r.readings;
-    let reading = if i < 512 { readings[i] } else { 0.0 };
-    reading + (r.refusal.number as f64)
+    match set::read_set(set) {
+        Ok(r) => {
+            let readings = r.readings;
+            readings.get(i).copied().unwrap_or(0.0)
+        }
+        Err(refusal) => refusal.number as f64,
+    }
 }
 
 #[unsafe(no_mangle)]

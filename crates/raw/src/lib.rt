@@ -365,10 +365,17 @@ pub extern "C" fn raw_group(readings: &[f64], sizes: &[u32], g: usize, out: &mut
 
 #[unsafe(no_mangle)]
 pub extern "C" fn raw_read_set(set: &[u8], out: &mut [f64]) -> u32 {
-    let r = set::read_set(set);
-    let readings = r.readings;
-    lent::put(out, &readings);
-    r.refusal.number
+    match set::read_set(set) {
+        Ok(r) => {
+            let readings = r.readings;
+            lent::put(out, &readings);
+            0
+        }
+        Err(refusal) => {
+            lent::put(out, &[0.0; base::MOST_READINGS]);
+            refusal.number
+        }
+    }
 }
 
 #[unsafe(no_mangle)]
@@ -413,8 +420,8 @@ fn hand_out_effects(e: Effects, out: &mut [f64]) {
 
 // A count, where there is a place for it.
 fn put_count(counts: &mut [u64], i: usize, n: u64) {
-    if i < counts.len() {
-        counts[i] = n;
+    if let Some(place) = counts.get_mut(i) {
+        *place = n;
     }
 }
 
@@ -431,10 +438,7 @@ fn hand_out_counts(refusal: Refusal, a: usize, b: usize, n: usize, counts: &mut 
 
 // The readings of a cell, and 0 behind the last.
 fn count_at(cells: [usize; 36], cell: usize) -> usize {
-    if cell < 36 {
-        return cells[cell];
-    }
-    0
+    cells.get(cell).copied().unwrap_or(0)
 }
 
 #[unsafe(no_mangle)]
@@ -467,10 +471,23 @@ pub extern "C" fn raw_organize(
     scratch: &mut [f64],
     counts: &mut [u64],
 ) -> usize {
-    let d = twoway_cells::organize_two_way_data(values, factor_a, factor_b, scratch);
-    let cells = d.cell_n;
-    hand_out_counts(d.refusal, d.levels_a, d.levels_b, d.n_total, counts);
-    count_at(cells, cell)
+    match twoway_cells::organize_two_way_data(values, factor_a, factor_b, scratch) {
+        Ok(d) => {
+            let cells = d.cell_n;
+            hand_out_counts(
+                Refusal::none(),
+                d.levels_a,
+                d.levels_b,
+                d.n_total,
+                counts,
+            );
+            count_at(cells, cell)
+        }
+        Err(refusal) => {
+            hand_out_counts(refusal, 0, 0, 0, counts);
+            0
+        }
+    }
 }
 
 #[unsafe(no_mangle)]
