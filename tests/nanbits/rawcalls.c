@@ -8,7 +8,7 @@
 #include <string.h>
 
 enum {
-    CANON, CANON_PLACES, ABS, LEAST, GREATEST, CLAMP, POWER, FLOAT_OF, ROOT, PUT, WIPE, SUM, SQ_DEV, MEAN, VARIANCE, REFUSED, EMPTY_ROWS, ROW, VALIDATE, FISHER, WELCH, LEVENE,
+    CANON, CANON_PLACES, ABS, LEAST, GREATEST, CLAMP, POWER, FLOAT_OF, ROOT, PUT, WIPE, SUM, SQ_DEV, MEAN, VARIANCE, REFUSED, EMPTY_ROWS, ROW, VALIDATE, PUT_ROWS, FISHER, WELCH, LEVENE,
     REPORT_FISHER, REPORT_WELCH, REPORT_LEVENE, VIEW, LOAD, EDIT, SHEET_FISHER, SHEET_WELCH, SHEET_LEVENE, READ_SET, SET_FISHER, SET_WELCH, SET_LEVENE, EFFECT_ROW, PLAIN_ROW, NO_ROW, NO_EFFECTS, CELL_TABLE, BALANCED_SS,
     NORMAL_EQUATIONS, TYPE3_SS, ORGANIZE, ORGANIZE_REFUSED, TWO_WAY, TWO_WAY_UNBALANCED, TWO_WAY_REFUSED, STUDY, STUDY_REFUSED, RM_TABLE, REPEATED, REPEATED_SPHERICITY, COVARIANCE,
     CORRECTIONS, NO_CORRECTIONS, SOLVE, INVERSE, DETERMINANT, DOT, LESS_ROW, OVER_ROW, ORTHONORMALIZE, PRODUCT, CSC, QR, EIGENVALUES, RAW
@@ -28,7 +28,7 @@ static struct call raw[RAW] = {
     KEEP(PUT, "lent::put", 0, 0), CALL(WIPE, "lent::wipe", 0, 0), CALL(REFUSED, "results::refused", 25, 0), CALL(EMPTY_ROWS, "Row::empty, Sheet::empty_row", 4, 0),
     CALL(NO_ROW, "results::no_row", 4, 0), CALL(NO_EFFECTS, "results::no_effects", 3, 0), CALL(NO_CORRECTIONS, "results::no_corrections", 10, 0),
     CALL(SUM, "stats::sum", 1, 1), CALL(SQ_DEV, "stats::sq_dev", 1, 1), CALL(MEAN, "stats::mean", 1, 1), CALL(VARIANCE, "stats::variance", 1, 1),
-    CALL(ROW, "Row::of", 2, 2), CALL(VALIDATE, "validate_anova_groups", 32, 32), CALL(REPORT_FISHER, "oneway::report, Fisher", 25, 23),
+    CALL(ROW, "Row::of", 2, 2), CALL(VALIDATE, "validate_anova_groups", 32, 32), CALL(PUT_ROWS, "put_rows", 32, 32), CALL(REPORT_FISHER, "oneway::report, Fisher", 25, 23),
     CALL(REPORT_WELCH, "oneway::report, Welch", 25, 18), CALL(REPORT_LEVENE, "oneway::report, Levene", 25, 23), KEEP(VIEW, "oneway_checks::group", 0, 0), CALL(LOAD, "Sheet::load", 32, 32),
     KEEP(EDIT, "Sheet's edits, the row", 2, 2), CALL(SHEET_FISHER, "Sheet::report, Fisher", 25, 23), CALL(SHEET_WELCH, "Sheet::report, Welch", 25, 18),
     CALL(SHEET_LEVENE, "Sheet::report, Levene", 25, 23),
@@ -278,6 +278,8 @@ static void ask_groups(struct set *s, unsigned kind, unsigned k, unsigned low, u
         with(&one, s->readings, s->n);
         took(VALIDATE, s, raw_validate(one.at, s->n, s->sizes, k, LENT(two, 16), LENT(three, 16)), want);
         wrote(VALIDATE, s, &two, 16, 0), wrote(VALIDATE, s, &three, 16, 16);
+        took(PUT_ROWS, s, raw_put_rows(one.at, s->n, s->sizes, k, LENT(two, 16), LENT(three, 16)), 0);
+        wrote(PUT_ROWS, s, &two, 16, 0), wrote(PUT_ROWS, s, &three, 16, 16);
         if (took(LOAD, s, raw_sheet_load(one.at, s->n, s->sizes, k, LENT(four, 512), LENT(two, 16), LENT(three, 16)), want)) {
             memcpy(four.was, s->readings, s->n * sizeof *four.was);
             memset(four.was + s->n, 0, (READINGS - s->n) * sizeof *four.was);

@@ -4,8 +4,10 @@
 // Place `i` of an answer's lists is added to its numbers: which place is not known before, so the whole list must be there.
 #![tactic(auto)]
 
+use base::Refusal;
 use oneway::AnovaKind;
 use repeated::RmAnovaResult;
+use oneway_rows::Row;
 use results::{AnovaTableRow, CorrectedResult, OneWayAnovaResult};
 use sheet::{Edit, Sheet};
 use study::GaugeStudy;
@@ -306,6 +308,13 @@ fn number_of<T: Drop>(told: Result<T, Refusal>) -> u32 {
 #[unsafe(no_mangle)]
 pub extern "C" fn call_group_refusal(readings: &[f64], sizes: &[u32], g: usize) -> u32 {
     number_of(oneway_checks::group_refusal(readings, sizes, g))
+}
+
+#[unsafe(no_mangle)]
+pub extern "C" fn call_put_rows(readings: &[f64], sizes: &[u32]) -> f64 {
+    let mut rows = [Row::empty(); base::MOST_GROUPS];
+    oneway_rows::put_rows(&mut rows, readings, sizes);
+    rows[0].mean
 }
 
 #[unsafe(no_mangle)]

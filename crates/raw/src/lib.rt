@@ -260,6 +260,20 @@ pub extern "C" fn raw_row_of(group: &[f64], out: &mut [f64]) -> u32 {
     r.size
 }
 
+// The rows of groups that need not have passed a check.
+#[unsafe(no_mangle)]
+pub extern "C" fn raw_put_rows(
+    readings: &[f64],
+    sizes: &[u32],
+    means: &mut [f64],
+    sq_devs: &mut [f64],
+) -> u32 {
+    let mut rows = [Row::empty(); base::MOST_GROUPS];
+    oneway_rows::put_rows(&mut rows, readings, sizes);
+    hand_out_rows(rows, means, sq_devs);
+    0
+}
+
 #[unsafe(no_mangle)]
 pub extern "C" fn raw_validate(
     readings: &[f64],
