@@ -1,10 +1,9 @@
 -- Laws of faults: two tests joined by "or" or by "and", and a check that stands behind two others.
-use mathlib.Core.Path.{◌≡◌, refl, ◌∙◌}
+use mathlib.Core.Path.{◌≡◌, refl}
 use mathlib.Core.Bool.{Bool, true, false, cond, ◌||◌, ◌&&◌}
 use lib.Dec.{eqb}
 use Rattle.base.specs.declared.Refusal.{Refusal}
 use Rattle.base.specs.Refusals.{◌or_else◌}
-use Rattle.base.proofs.Order.{stops, goes_on}
 
 -- where neither of two faults is there, each is not
 pub neither : (x y : Bool) → (x || y) ≡ false → (x ≡ false) × (y ≡ false)
@@ -23,11 +22,3 @@ checks_in_order q s t = go (eqb q.number 0) refl
     go : (b : Bool) → eqb q.number 0 ≡ b → cond (eqb (cond b s q).number 0) t (cond b s q) ≡ cond b (s or_else t) q
     go true e = refl
     go false e = rw e
-
--- r is what the first two checks said: it stands, or the third is asked
-module _ (q s t : Refusal) {r : Refusal} where
-  pub stops_there : r ≡ (q or_else s) → (r.number ≡ 0 → ⊥) → r ≡ (q or_else (s or_else t))
-  stops_there e n = stops (q or_else s) t e n ∙ checks_in_order q s t
-
-  pub goes_beyond : {x : Refusal} → r ≡ (q or_else s) → r.number ≡ 0 → x ≡ t → x ≡ (q or_else (s or_else t))
-  goes_beyond e z p = goes_on (q or_else s) t e z p ∙ checks_in_order q s t

@@ -13,7 +13,6 @@ pub mod Firsts
 pub mod Faults
 pub mod Searches
 pub mod Edits
-pub mod Moves
 pub mod Sizes
 pub mod Histories
 pub mod Judged

@@ -1,16 +1,14 @@
 -- The ends of the calls, each from what the code worked out step by step.
-use Prim.Native.Nat.{ℕ, ◌+◌, ◌*◌, ◌-◌, ◌<◌}
+use Prim.Native.Nat.{ℕ, ◌-◌}
 use mathlib.Core.Path.{◌≡◌, ap, ◌∙◌}
 use mathlib.Core.Bool.{Bool, true, false}
 use mathlib.Core.List.{List}
-use lib.ListN.{length, set}
+use lib.ListN.{length}
 use lib.Ieee.{Float}
-use Rattle.base.specs.Loop.{loop}
-use Rattle.base.proofs.Loops.{step}
 use Rattle.matrix_orthonormal.specs.Orthonormal.{orthonormalize}
 use Rattle.matrix_product.specs.Product.{blank, matrix_multiply_csc}
 use Rattle.float.specs.Words.{◌⊘◌, count}
-use Rattle.repeated_contrasts.specs.Covariance.{cov_sum, covariance, cov_at, cov_rows, no_covariances, cov_matrix}
+use Rattle.repeated_contrasts.specs.Covariance.{cov_sum, covariance, cov_rows, no_covariances, cov_matrix}
 use Rattle.repeated_contrasts.specs.Contrasts.{contrast_rows, contrasts, orthonormal_contrasts, through_contrasts, fits, contrast_covariance}
 
 -- c are the differences, d what `orthonormalize` leaves of them
@@ -23,10 +21,6 @@ module _ (n k : ℕ) (xs ms : List Float) where
   pub covariance_done : (i j : ℕ) {t : Float} → t ≡ cov_sum n k xs ms i j → t ⊘ count (n - 1) ≡ covariance n k xs ms i j
   unfolding covariance
   covariance_done i j e = ap (λ (x : Float). x ⊘ count (n - 1)) e
-
-  -- place j of row i: x is its covariance
-  pub cov_step_lem : (i j : ℕ) (out : List Float) {x : Float} {whole : List Float} → loop j k (cov_at n k xs ms i) out ≡ whole → j < k → x ≡ covariance n k xs ms i j → loop (j + 1) k (cov_at n k xs ms i) (set out (i * k + j) x) ≡ whole
-  cov_step_lem i j out e h q = step j k (cov_at n k xs ms i) out _ _ e h (ap (set out (i * k + j)) q)
 
   module _ (out : List Float) where
     -- s is the matrix, c the differences, d the same made orthonormal

@@ -49,10 +49,6 @@ part_length : (a k : ℕ) (xs : List Float) → a + k ≤ length xs → length (
 unfolding part
 part_length a k xs h = length-take-le k (drop a xs) (rw length-drop (omega arith))
 
-pub sums_length : (xs : List Float) (n k : ℕ) → length (column_sums xs n k) ≡ 12
-unfolding column_sums
-sums_length xs n k = loop_length 0 n (row_step xs k) (λ i m. added_length (part (i * k) k xs) m) (replicate 12 minus_zero) ∙ length-replicate 12 minus_zero
-
 module _ (xs : List Float) (n k : ℕ) (f : Fitting xs n k) (j : ℕ) (l : j < k) where
   abbrev Summed : ℕ → List Float → Type 0
   Summed i s = (length s ≡ 12) × (get_or s j nan ≡ loop 0 i (condition_step xs k j) minus_zero)

@@ -31,6 +31,7 @@ fn analyse(readings: &[f64], sizes: &[u32], out: &mut [f64], kind: AnovaKind) ->
         return 12;
     }
     let r = oneway::one_way_anova(readings, sizes, kind);
+    // The number itself is what C gets.
     let number = r.refusal.number;
     if number != 0 {
         return number;

@@ -21,6 +21,7 @@ pub extern "C" fn speed_repeated(
         return 12;
     }
     let r = repeated::repeated_measures_anova(readings, sizes, sphericity == 1);
+    // The number itself is what C gets.
     let number = r.refusal.number;
     if number != 0 {
         return number;

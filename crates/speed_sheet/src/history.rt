@@ -1,13 +1,12 @@
 // A history of edits with a report after each.
 ghost use Rattle.std.specs.Prelude.{◌≡◌, get_or};
-ghost use Rattle.float.specs.Words.{plus_zero};
 ghost use Rattle.sheet.specs.Calls.{called};
 ghost use Rattle.speed_sheet.specs.Histories.{call_with, reports_of, history_of};
 
 use oneway::AnovaKind;
 use sheet::Sheet;
 
-// One edit: 1 replaces, 2 appends, and any other number removes.
+// One edit: 1 replaces, 2 appends, and any other number removes. The numbers are what the program in C hands in.
 fn edited(s: Sheet, op: u32, group: usize, place: usize, x: f64) -> Sheet
     ensures { result ≡ called s (call_with op group place x) }
 {
@@ -23,24 +22,11 @@ fn edited(s: Sheet, op: u32, group: usize, place: usize, x: f64) -> Sheet
     e.sheet
 }
 
-// A number of an edit; 0 where it is missing.
-fn number(edits: &[u32], i: usize) -> u32
-    ensures { result ≡ get_or edits.now i 0 }
+// What a list holds at a place; `none` where it is missing.
+fn held<T: Copy>(list: &[T], i: usize, none: T) -> T
+    ensures { result ≡ get_or list.now i none }
 {
-    if i < edits.len() {
-        return edits[i];
-    }
-    0
-}
-
-// A new reading; +0.0 where it is missing.
-fn reading(fresh: &[f64], i: usize) -> f64
-    ensures { result ≡ get_or fresh.now i plus_zero }
-{
-    if i < fresh.len() {
-        return fresh[i];
-    }
-    0.0
+    list.get(i).copied().unwrap_or(none)
 }
 
 // An edit for each place of `out`, and there the F of the report after it.
@@ -48,18 +34,16 @@ fn reports(s: Sheet, edits: &[u32], fresh: &[f64], out: &mut [f64], kind: AnovaK
     ensures { out.new ≡ reports_of kind edits.now fresh.now s out.old }
 {
     let mut sheet = s;
-    let mut i = 0;
-    while i < out.len() {
+    for i in 0..out.len() {
         sheet = edited(
             sheet,
-            number(edits, 3 * i),
-            number(edits, 3 * i + 1) as usize,
-            number(edits, 3 * i + 2) as usize,
-            reading(fresh, i),
+            held(edits, 3 * i, 0),
+            held(edits, 3 * i + 1, 0) as usize,
+            held(edits, 3 * i + 2, 0) as usize,
+            held(fresh, i, 0.0),
         );
         let r = sheet.report(kind);
         out[i] = r.statistic;
-        i += 1;
     }
 }
 
@@ -75,6 +59,7 @@ pub fn history(
     ensures { (out.new, result) ≡ history_of kind readings.now sizes.now edits.now fresh.now out.old }
 {
     let loaded = Sheet::load(readings, sizes);
+    // The number itself is what C gets.
     let number = loaded.refusal.number;
     if number != 0 {
         return number;

@@ -22,6 +22,7 @@ pub extern "C" fn speed_two_way(
         return 12;
     }
     let r = twoway::two_way_anova(values, factor_a, factor_b, scratch);
+    // The number itself is what C gets.
     let number = r.refusal.number;
     if number != 0 {
         return number;

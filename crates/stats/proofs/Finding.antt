@@ -2,12 +2,11 @@
 use mathlib.Core.Path.{◌≡◌, refl, ◌∙◌}
 use mathlib.Core.List.{List, [], ◌∷◌, ◌++◌}
 use mathlib.Core.Bool.{Bool, true, false, cond}
-use Prim.Native.Nat.{ℕ, zero, suc, ◌+◌, ◌-◌, ◌<◌, ◌≤◌}
+use Prim.Native.Nat.{ℕ, zero, suc, ◌+◌, ◌<◌, ◌≤◌}
 use native.Mathlib.Numerals.{add-one}
 use lib.ListN.{get_or, length, take, drop, set, drop_of_length-le}
 use lib.Seq.{drop-cons, take-append_seam, drop-append_seam}
 use lib.Ieee.{Float, nan}
-use Rattle.base.proofs.Searches.{here}
 use Rattle.stats.specs.Sums.{some}
 
 module _ (test : Float → Bool) where
@@ -53,10 +52,6 @@ module _ (test : Float → Bool) where
 
   pub none_apart : (xs ys : List Float) → some test (xs ++ ys) ≡ false → (some test xs ≡ false) × (some test ys ≡ false)
   none_apart xs ys e = (rw take-append_seam at (none_taken (length xs) (xs ++ ys) e), rw drop-append_seam at (none_left (length xs) (xs ++ ys) e))
-
-  -- nor in part g, which begins at `at`
-  pub none_here : (xs : List Float) (ns : List ℕ) (g at : ℕ) → some test xs ≡ false → some test (here xs ns g at) ≡ false
-  none_here xs ns g at e = none_taken (at + get_or ns g 0 - at) (drop at xs) (none_left at xs e)
 
   -- nor where two such lists are joined, or a reading of which it does not hold is put into one
   pub none_append : (xs ys : List Float) → some test xs ≡ false → some test ys ≡ false → some test (xs ++ ys) ≡ false

@@ -5,7 +5,7 @@ use Prim.Native.Nat.{ℕ, ◌*◌, ◌≤◌, ◌<◌}
 use native.Mathlib.Omega.{arith}
 use native.Mathlib.Nat.{mul-le-mul}
 use lib.Ieee.{Float}
-use lib.ListN.{length, get_or, take, length-append, length-replicate, length-drop}
+use lib.ListN.{length, get_or, take}
 use lib.Seq.{get_or-take, length-take-le}
 use Rattle.base.specs.declared.Refusal.{Refusal}
 use Rattle.base.specs.Lists.{over}
@@ -19,7 +19,7 @@ use Rattle.twoway_checks.specs.Checks.{levels, two_way_refusal}
 use Rattle.twoway_checks.specs.Data.{checked_data, two_way_data}
 use Rattle.twoway_cells.specs.Organized.{cell_order, organize_two_way_data, left_alone}
 use Rattle.twoway_cells.proofs.Designs.{Held, held}
-use Rattle.lent.specs.Wiping.{wiped, zeros}
+use Rattle.lent.specs.Wiping.{wiped}
 use Rattle.twoway.specs.declared.TwoWayAnovaResult.{TwoWayAnovaResult}
 use Rattle.twoway.specs.Results.{answer_of}
 use Rattle.twoway.specs.Anova.{two_way_anova, two_way_of, untouched}
@@ -95,10 +95,6 @@ module _ (xs : List Float) (us vs : List ℕ) (scratch : List Float) (d : TwoWay
     pub few_benches : t.levels_b ≤ 6
     unfolding answer_of
     few_benches = rw (is_table, ← design.is_b) design.high_b
-
-    pub after_length : length after ≡ length scratch
-    unfolding wiped zeros
-    after_length = rw (ap (λ (x : List Float × TwoWayAnovaResult). x.0) table) (simp (length-append, length-replicate, length-drop) (omega (arith, design.lent, design.long)))
 
     -- answered
     pub answered : {u : Result ⊤ Refusal} (r : GaugeStudy) → u ≡ verdict (balance_refusal (take (a * b) d.cell_n)) → u ≡ Ok tt → r ≡ components_of t (get_or d.cell_n 0 0) → ◌≡◌ {A = List Float × GaugeStudy} (after, r) (gauge_study xs us vs scratch)

@@ -1,6 +1,6 @@
 -- Laws of the lines of cells, and of the search for a count that differs.
-use mathlib.Core.Path.{◌≡◌, refl, sym, ◌∙◌}
-use mathlib.Core.List.{List, [], ◌∷◌}
+use mathlib.Core.Path.{◌≡◌, sym, ◌∙◌}
+use mathlib.Core.List.{List}
 use Prim.Native.Nat.{ℕ, ◌+◌, ◌-◌, ◌*◌, ◌≤◌, ◌<◌}
 use native.Mathlib.Numerals.{add-one}
 use native.Mathlib.Omega.{arith}
@@ -13,10 +13,6 @@ use Rattle.float.specs.Words.{plus_zero}
 use Rattle.base.proofs.Bounds.{product_le}
 use Rattle.twoway_balanced.specs.Squares.{unlike, margin_step, mean_margins}
 
-pub length_zero : {A : Type 0} (xs : List A) → length xs ≡ 0 → xs ≡ []
-length_zero [] e = refl
-length_zero (x ∷ xs) e = absurd (omega (arith, e))
-
 -- the margins have six places
 pub margins_length : (ms : List Float) (m e d n : ℕ) → length (mean_margins ms m e d n) ≡ 6
 unfolding mean_margins
@@ -24,9 +20,6 @@ margins_length ms m e d n = loop_length 0 m (margin_step ms e d n) (λ i out. le
 
 pub taken : (k : ℕ) (out : List Float) (ms : List Float) (m e d n : ℕ) → k ≤ 6 → out ≡ mean_margins ms m e d n → k ≡ length (take k out)
 taken k out ms m e d n h q = sym (length-take-le k out (rw (q, margins_length ms m e d n) h))
-
-pub pos_of : {n : ℕ} → (n ≡ 0 → ⊥) → 0 < n
-pos_of ne = omega (arith, ne)
 
 module _ (a b : ℕ) (rows : a ≤ 6) (columns : b ≤ 6) where
   pub few_cells : a * b ≤ 36

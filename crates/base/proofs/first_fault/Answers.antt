@@ -1,5 +1,5 @@
 -- A walk from the first group on: what is left has the same first fault as the whole, as long as no group before had one.
-use Rattle.std.proofs.Common.{rules, refl, sym, ap, ◌∙◌}
+use Rattle.std.proofs.Common.{rules, refl, ap, ◌∙◌}
 use Rattle.std.proofs.lemmas.List.{take_min, drop_min}
 use Rattle.base.specs.Refusals.{verdict}
 use Rattle.base.proofs.Searches.{found_here, found_later, none_left_over}

@@ -1,6 +1,5 @@
-use Prim.Native.Nat.{◌-◌}
-use mathlib.Core.Path.{◌≡◌}
-use lib.ListN.{length}
+-- What is left to do from turn i on gives the whole.
+use Rattle.std.proofs.Common.{length, ◌≡◌}
 use Rattle.speed_sheet.specs.Histories.{reported}
 use Rattle.base.specs.Loop.{loop}
 use Rattle.speed_sheet.proofs.history.reports.Given as goal
@@ -9,6 +8,3 @@ abbrev pub invariant-loop-i : goal.invariant-loop-i
 invariant-loop-i l =
     (length l.out ≡ length l.initial.out)
     × (loop l.i (length l.initial.out) (reported l.kind l.edits l.fresh) (record { sheet = l.sheet; out = l.out }) ≡ loop 0 (length l.initial.out) (reported l.kind l.edits l.fresh) (record { sheet = l.initial.sheet; out = l.initial.out }))
-
-abbrev pub decreases-loop-i : goal.decreases-loop-i
-decreases-loop-i l = length l.initial.out - l.i
