@@ -26,7 +26,8 @@ pub const FEWEST_GROUPS: usize = 2;
 
 pub const FEWEST_READINGS: usize = 2;
 
-// A refusal's number in document 01's table, and its two details; number 0 is no refusal.
+// A refusal's number in document 01's table, and its two details; number 0 is no refusal. It is no enum: document 01 fixes numbers and details, and the edits `Refusal.new--..` and
+// `Refusal.none--..` change them. What a check hands back is a `Result`.
 // The details have 64 bits: the code 4294967295 is 4294967296 levels.
 #[derive(Clone, Copy)]
 pub struct Refusal {

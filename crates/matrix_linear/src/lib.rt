@@ -1,4 +1,5 @@
 // Dense linear algebra on flat slices: the rows of a matrix lie one after another in lent memory.
+// The lent rows and their sizes stay parameters: a struct of them would have each clause say, beside what the rows become, that the sizes stay.
 #![tactic(auto)]
 
 mod clearing;
@@ -24,6 +25,7 @@ use system::backward;
 const MOST_ROWS: usize = base::MOST_LEVELS * base::MOST_LEVELS;
 
 // Whether the rows were taken, and how many columns elimination skipped since their pivots were too small.
+// A mark and a count, and no Option: its callers add up `skipped` of calls that are always taken, and would have to say what a None counts.
 #[derive(Clone, Copy)]
 pub struct Elimination {
     pub taken: bool,

@@ -1,4 +1,5 @@
 // The product of two matrices, and C S C'. The rows of a matrix lie one after another in lent memory.
+// The lent rows and their sizes stay parameters: a struct of them would have each clause say, beside what the rows become, that the sizes stay.
 #![tactic(auto)]
 
 mod rows;

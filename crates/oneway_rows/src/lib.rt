@@ -17,6 +17,7 @@ pub struct Row {
 }
 
 // The rows of all groups, and empty rows behind them; or a refusal. Document 01 fixes this record, with the refusal beside the rows.
+// Memory is fixed and nothing is on a heap: the arrays have their counts beside them.
 #[derive(Clone, Copy)]
 pub struct GroupStats {
     pub refusal: Refusal,

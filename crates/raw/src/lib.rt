@@ -103,7 +103,7 @@ pub extern "C" fn raw_variance(readings: &[f64], out: &mut [f64]) -> u32 {
 
 // ---- one-way data: rows, analyses, the sheet, the reading set
 
-// 0 is Fisher's, 1 Welch's, and any other number Levene's.
+// 0 is Fisher's, 1 Welch's, and any other number Levene's: the numbers are what the program in C hands in.
 fn kind_of(kind: u32) -> AnovaKind {
     match kind {
         0 => AnovaKind::Fisher,
@@ -488,13 +488,7 @@ pub extern "C" fn raw_organize(
     match twoway_cells::organize_two_way_data(values, factor_a, factor_b, scratch) {
         Ok(d) => {
             let cells = d.cell_n;
-            hand_out_counts(
-                Refusal::none(),
-                d.levels_a,
-                d.levels_b,
-                d.n_total,
-                counts,
-            );
+            hand_out_counts(Refusal::none(), d.levels_a, d.levels_b, d.n_total, counts);
             count_at(cells, cell)
         }
         Err(refusal) => {

@@ -11,6 +11,7 @@ use base::Refusal;
 use results::{AnovaTableRow, CorrectedResult, SphericityResult};
 
 // The answer of a repeated-measures analysis. Unused places are zero, and so are the three results of sphericity where it was not worked out.
+// Document 01 fixes this record, with the refusal beside zeros and a mark for sphericity.
 #[derive(Clone, Copy)]
 pub struct RmAnovaResult {
     pub refusal: Refusal,

@@ -10,7 +10,9 @@ ghost use Rattle.results.specs.Corrections.{no_corrected, no_corrections};
 
 use base::Refusal;
 
-// The answer of a one-way analysis. What Welch's has not is zero beside a mark that says so.
+// The answer of a one-way analysis. What Welch's has not is zero beside a mark that says so. Document 01 ("Refusal numbers", "Forms that must change") fixes this record, with a refusal
+// beside zeros and marks in place of Option; the edits `refused--..` change single fields of it.
+// Memory is fixed and nothing is on a heap: the arrays have their counts beside them.
 #[derive(Clone, Copy)]
 pub struct OneWayAnovaResult {
     pub refusal: Refusal,
@@ -58,7 +60,8 @@ pub fn refused(refusal: Refusal) -> OneWayAnovaResult
     }
 }
 
-// One row of the table: `f` is the source's `f_statistic`. Where there is no F, it is zero beside a mark that says so.
+// One row of the table: `f` is the source's `f_statistic`. Where there is no F, it is zero beside a mark that says so: document 01's
+// presence marks, which the edits `effect_row--no-mark` and `plain_row--a-mark` change.
 #[derive(Clone, Copy)]
 pub struct AnovaTableRow {
     pub ss: f64,

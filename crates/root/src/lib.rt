@@ -59,6 +59,7 @@ fn long_root(m: u64) -> u64
     if v * DIGITS < u * u { r - 1 } else { r }
 }
 
+// That b is above zero stays a clause of three functions: each would have to take a NonZeroU64 apart again.
 // The 53 binary digits of the number above zero whose pattern is b. A subnormal number has fewer, and is moved up.
 #[tactic(auto, using(crate::proofs::Scaled::twelve, crate::proofs::Scaled::significand_low, crate::proofs::Scaled::significand_high, crate::proofs::Scaled::significand_range, crate::proofs::Scaled::leads))]
 fn significand(b: u64) -> u64

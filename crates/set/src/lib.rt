@@ -16,6 +16,7 @@ use results::OneWayAnovaResult;
 pub const LONGEST: usize = 2 + base::MOST_GROUPS * 2 + base::MOST_READINGS * 8;
 
 // A set that was read: its sizes and its readings, and zeros behind them.
+// Memory is fixed and nothing is on a heap: the arrays have their counts beside them.
 #[derive(Clone, Copy)]
 pub struct ReadingSet {
     pub n_groups: usize,

@@ -14,6 +14,7 @@ use oneway_rows::Row;
 use results::OneWayAnovaResult;
 
 // The groups' readings one after another, a row for each group, and zeros behind both. The only count beside the rows' sizes is that of the groups.
+// Memory is fixed and nothing is on a heap: the arrays have their counts beside them.
 #[derive(Clone, Copy)]
 pub struct Sheet {
     pub places: [f64; Sheet::PLACES],

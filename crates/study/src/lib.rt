@@ -10,6 +10,7 @@ use base::Refusal;
 use twoway::TwoWayAnovaResult;
 
 // The components of variance, of which none is below zero; meters are the levels of A, benches those of B, readings those of one cell.
+// Document 01 fixes this record, with the refusal beside zeros; the theorem `never_negative` speaks of both.
 #[derive(Clone, Copy)]
 pub struct GaugeStudy {
     pub refusal: Refusal,

@@ -13,6 +13,7 @@ use results::{AnovaTableRow, Skips};
 
 // The answer of a two-way analysis. Cell (i, j) stands at place i * levels_b + j; unused places are zero. A coefficient that was skipped
 // is 0 because the matrix gave out: `skips` counts them, and is all zeros in a balanced design.
+// Document 01 fixes this record, with the refusal beside zeros; the theorems `refused_none` and `skips_told` speak of both.
 #[derive(Clone, Copy)]
 pub struct TwoWayAnovaResult {
     pub refusal: Refusal,

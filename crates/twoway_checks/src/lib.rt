@@ -10,6 +10,7 @@ ghost use Rattle.twoway_checks.specs.Data.{checked_data};
 use base::Refusal;
 
 // The design of readings that passed the checks. The cell (i, j) stands at place i * levels_b + j of cell_n.
+// Memory is fixed and nothing is on a heap: the arrays have their counts beside them.
 #[derive(Clone, Copy)]
 pub struct TwoWayData {
     pub levels_a: usize,

@@ -1,4 +1,5 @@
 // Type III sums of squares of an unbalanced two-way design, in memory that the caller lends.
+// The lent rows and their sizes stay parameters: a struct of them would have each clause say, beside what the rows become, that the sizes stay.
 #![tactic(auto)]
 
 mod half;
