@@ -6,8 +6,8 @@
 
 use base::Refusal;
 use oneway::AnovaKind;
-use repeated::RmAnovaResult;
 use oneway_rows::Row;
+use repeated::RmAnovaResult;
 use results::{AnovaTableRow, CorrectedResult, OneWayAnovaResult};
 use sheet::{Edit, Sheet};
 use study::GaugeStudy;

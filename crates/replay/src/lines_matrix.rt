@@ -51,7 +51,11 @@ pub fn solve(out: &mut Out, case: &Case, skips: bool) {
         Some(n) => {
             let mut m = [0.0; LONG];
             let (matrix, sides) = case.readings.split_at(n * n);
-            for ((row, given), y) in m.chunks_exact_mut(n + 1).zip(matrix.chunks_exact(n)).zip(sides) {
+            for ((row, given), y) in m
+                .chunks_exact_mut(n + 1)
+                .zip(matrix.chunks_exact(n))
+                .zip(sides)
+            {
                 copy(row, given);
                 if let Some(last) = row.last_mut() {
                     *last = *y;

@@ -101,7 +101,10 @@ fn study_lines(out: &mut Out, r: GaugeStudy) {
 
 // How many places have these bits.
 fn holding(scratch: &[f64], bits: u64) -> u64 {
-    scratch.iter().filter(|x| float::bits_of(**x) == bits).count() as u64
+    scratch
+        .iter()
+        .filter(|x| float::bits_of(**x) == bits)
+        .count() as u64
 }
 
 // The places that hold +0.0, and those that still hold 1.5.

@@ -15,5 +15,10 @@ mod stream;
 fn main(rt: HostRuntime) {
     let mut buffer = [0u8; 65536];
     let mut answers = [0u8; 65536];
-    stream::run(rt.stdin(), rt.stdout(), &mut buffer, lines::Out::new(&mut answers));
+    stream::run(
+        rt.stdin(),
+        rt.stdout(),
+        &mut buffer,
+        lines::Out::new(&mut answers),
+    );
 }
