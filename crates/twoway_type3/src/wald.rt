@@ -29,42 +29,60 @@ pub struct Solved {
     pub inverse: usize,
 }
 
-// The products of coefficient s + i with row i of the inverted block, added to ss.
-fn wald_row(beta: &[f64], cov: &[f64], p: usize, s: usize, n: usize, i: usize, ss: f64) -> f64
-    requires { (i < n) × (s + n ≤ p) × (p ≤ most_cells) × (p * (p + 1) ≤ length beta.now) × (n * (2 * n) ≤ length cov.now) }
-    ensures { result ≡ wald_row p s n beta.now cov.now i ss }
-{
-    let f = beta[(s + i) * (p + 1) + p];
-    let mut t = ss;
-    // By number: the coefficients lie p + 1 places apart.
-    for j in 0..n {
-        t += f * cov[i * (2 * n) + n + j] * beta[(s + j) * (p + 1) + p];
-    }
-    t
+// Where the columns of an effect lie among the p columns of the design: n of them, from s on.
+#[derive(Clone, Copy)]
+struct Columns {
+    p: usize,
+    s: usize,
+    n: usize,
+    ghost some: { 0 < n },
+    ghost most: { n ≤ most_columns },
+    ghost within: { s + n ≤ p },
+    ghost few: { p ≤ most_cells },
 }
 
-fn wald_sum(beta: &[f64], cov: &[f64], p: usize, s: usize, n: usize) -> f64
-    requires { (s + n ≤ p) × (p ≤ most_cells) × (p * (p + 1) ≤ length beta.now) × (n * (2 * n) ≤ length cov.now) }
-    ensures { result ≡ wald_sum p s n beta.now cov.now }
-{
-    let mut ss = 0.0;
-    for i in 0..n {
-        ss = wald_row(beta, cov, p, s, n, i, ss);
+impl Columns {
+    // The products of coefficient s + i with row i of the inverted block, added to ss.
+    #[tactic(auto, using(base::proofs::Loops::step, base::proofs::Loops::ends, base::proofs::Bounds::row_end), unfolding(crate::specs::Wald::wald_row))]
+    fn wald_row(self, beta: &[f64], cov: &[f64], i: usize, ss: f64) -> f64
+        requires { (i < self.n) × (self.p * (self.p + 1) ≤ length beta.now) × (self.n * (2 * self.n) ≤ length cov.now) }
+        ensures { result ≡ wald_row self.p self.s self.n beta.now cov.now i ss }
+    {
+        let Columns { p, s, n } = self;
+        let f = beta[(s + i) * (p + 1) + p];
+        let mut t = ss;
+        // By number: the coefficients lie p + 1 places apart.
+        for j in 0..n {
+            t += f * cov[i * (2 * n) + n + j] * beta[(s + j) * (p + 1) + p];
+        }
+        t
     }
-    float::canon(ss)
-}
 
-// The sum of squares of the effect with the n columns from s on.
-fn wald_ss(work: &mut [f64], p: usize, s: usize, n: usize) -> Effect
-    requires { (0 < n) × (n ≤ most_columns) × (s + n ≤ p) × (p ≤ most_cells) × (length work.old ≡ scratch_places) }
-    ensures { (result ≡ wald_ss p s n (part 0 (p * (p + 1)) work.old) (part inverse_from (p * (2 * p)) work.old)) × (take block_from work.new ≡ take block_from work.old) }
-{
-    left_half(work, BLOCK, n, INVERSE + (s * (2 * p) + (p + s)), 2 * p);
-    let end = BLOCK + n * (2 * n);
-    let e = matrix_linear::matrix_inverse(&mut work[BLOCK..end], n);
-    Effect {
-        ss: wald_sum(&work[0..p * (p + 1)], &work[BLOCK..end], p, s, n),
-        skipped: e.skipped,
+    #[tactic(auto, using(base::proofs::Loops::step, base::proofs::Loops::ends), unfolding(crate::specs::Wald::wald_sum))]
+    fn wald_sum(self, beta: &[f64], cov: &[f64]) -> f64
+        requires { (self.p * (self.p + 1) ≤ length beta.now) × (self.n * (2 * self.n) ≤ length cov.now) }
+        ensures { result ≡ wald_sum self.p self.s self.n beta.now cov.now }
+    {
+        let mut ss = 0.0;
+        for i in 0..self.n {
+            ss = self.wald_row(beta, cov, i, ss);
+        }
+        float::canon(ss)
+    }
+
+    // The sum of squares of the effect.
+    fn wald_ss(self, work: &mut [f64]) -> Effect
+        requires { length work.old ≡ scratch_places }
+        ensures { (result ≡ wald_ss self.p self.s self.n (part 0 (self.p * (self.p + 1)) work.old) (part inverse_from (self.p * (2 * self.p)) work.old)) × (take block_from work.new ≡ take block_from work.old) }
+    {
+        let Columns { p, s, n } = self;
+        left_half(work, BLOCK, n, INVERSE + (s * (2 * p) + (p + s)), 2 * p);
+        let end = BLOCK + n * (2 * n);
+        let e = matrix_linear::matrix_inverse(&mut work[BLOCK..end], n);
+        Effect {
+            ss: self.wald_sum(&work[0..p * (p + 1)], &work[BLOCK..end]),
+            skipped: e.skipped,
+        }
     }
 }
 
@@ -93,19 +111,25 @@ pub fn all_effects(levels: Levels, work: &mut [f64]) -> Effects
     let solved = solve(levels, work);
     let Levels { a, b } = levels;
     let p = a * b;
-    let of_a = wald_ss(work, p, 1, a - 1);
-    let of_b = wald_ss(work, p, a, b - 1);
-    let of_ab = wald_ss(work, p, a + (b - 1), (a - 1) * (b - 1));
+    let (of_a, of_b) = (a - 1, b - 1);
+    let ss_a = Columns { p, s: 1, n: of_a }.wald_ss(work);
+    let ss_b = Columns { p, s: a, n: of_b }.wald_ss(work);
+    let ss_ab = Columns {
+        p,
+        s: a + of_b,
+        n: of_a * of_b,
+    }
+    .wald_ss(work);
     Effects {
-        ss_a: of_a.ss,
-        ss_b: of_b.ss,
-        ss_ab: of_ab.ss,
+        ss_a: ss_a.ss,
+        ss_b: ss_b.ss,
+        ss_ab: ss_ab.ss,
         skips: Skips {
             solver: solved.solver,
             inverse: solved.inverse,
-            block_a: of_a.skipped,
-            block_b: of_b.skipped,
-            block_ab: of_ab.skipped,
+            block_a: ss_a.skipped,
+            block_b: ss_b.skipped,
+            block_ab: ss_ab.skipped,
         },
     }
 }

@@ -11,33 +11,12 @@ overflow_mul-p c =
     let all_columns : c.args.levels.a * c.args.levels.b ≤ most_cells = cells_most c.args.levels.a c.args.levels.b c.args.levels.in_range.1 c.args.levels.in_range.3 in
     omega (arith, all_columns)
 
-pub wald_ss-of_a-requires : goal.wald_ss-of_a-requires
-wald_ss-of_a-requires c =
-    let interaction : Interaction c.args.levels.a c.args.levels.b = columns c.args.levels.a c.args.levels.b c.args.levels.in_range.0 c.args.levels.in_range.1 c.args.levels.in_range.2 c.args.levels.in_range.3 in
-    let all_columns : c.args.levels.a * c.args.levels.b ≤ most_cells = cells_most c.args.levels.a c.args.levels.b c.args.levels.in_range.1 c.args.levels.in_range.3 in
-    let i = interaction in
-    (omega arith, omega arith, omega (arith, i.0, i.2), all_columns, omega arith)
-
-pub wald_ss-of_b-requires : goal.wald_ss-of_b-requires
-wald_ss-of_b-requires c =
-    let interaction : Interaction c.args.levels.a c.args.levels.b = columns c.args.levels.a c.args.levels.b c.args.levels.in_range.0 c.args.levels.in_range.1 c.args.levels.in_range.2 c.args.levels.in_range.3 in
-    let all_columns : c.args.levels.a * c.args.levels.b ≤ most_cells = cells_most c.args.levels.a c.args.levels.b c.args.levels.in_range.1 c.args.levels.in_range.3 in
-    let i = interaction in
-    (omega arith, omega arith, omega (arith, i.2), all_columns, omega arith)
-
-pub overflow_mul-a : goal.overflow_mul-a
-overflow_mul-a c =
-    let interaction : Interaction c.args.levels.a c.args.levels.b = columns c.args.levels.a c.args.levels.b c.args.levels.in_range.0 c.args.levels.in_range.1 c.args.levels.in_range.2 c.args.levels.in_range.3 in
-    omega (arith, interaction.1)
-
-pub wald_ss-of_ab-requires : goal.wald_ss-of_ab-requires
-wald_ss-of_ab-requires c =
-    let interaction : Interaction c.args.levels.a c.args.levels.b = columns c.args.levels.a c.args.levels.b c.args.levels.in_range.0 c.args.levels.in_range.1 c.args.levels.in_range.2 c.args.levels.in_range.3 in
-    let all_columns : c.args.levels.a * c.args.levels.b ≤ most_cells = cells_most c.args.levels.a c.args.levels.b c.args.levels.in_range.1 c.args.levels.in_range.3 in
-    let i = interaction in
-    (i.0, i.1, omega (arith, i.2), all_columns, omega arith)
+pub invariant_of-wald_ss-3 : goal.invariant_of-wald_ss-3
+invariant_of-wald_ss-3 c =
+    let i : Interaction c.args.levels.a c.args.levels.b = columns c.args.levels.a c.args.levels.b c.args.levels.in_range.0 c.args.levels.in_range.1 c.args.levels.in_range.2 c.args.levels.in_range.3 in
+    record { some = i.0; most = i.1; within = omega (arith, i.2); few = cells_most c.args.levels.a c.args.levels.b c.args.levels.in_range.1 c.args.levels.in_range.3 }
 
 pub returns : goal.returns
 returns c =
     let all_columns : c.args.levels.a * c.args.levels.b ≤ most_cells = cells_most c.args.levels.a c.args.levels.b c.args.levels.in_range.1 c.args.levels.in_range.3 in
-    effects_chain _ c.args.levels.a c.args.levels.b all_columns c.solve-solved.new.work c.wald_ss-of_a.new.work c.wald_ss-of_b.new.work c.wald_ss-of_ab.new.work (c.solve-solved.ensures.coefficients, c.solve-solved.ensures.inverted) c.solve-solved.ensures.skipped c.wald_ss-of_a.ensures c.wald_ss-of_b.ensures c.wald_ss-of_ab.ensures
+    effects_chain _ c.args.levels.a c.args.levels.b all_columns c.solve-solved.new.work c.wald_ss-ss_a.new.work c.wald_ss-ss_b.new.work c.wald_ss-ss_ab.new.work (c.solve-solved.ensures.coefficients, c.solve-solved.ensures.inverted) c.solve-solved.ensures.skipped c.wald_ss-ss_a.ensures c.wald_ss-ss_b.ensures c.wald_ss-ss_ab.ensures
