@@ -25,16 +25,16 @@ fn readings_of(rows: &[Row]) -> usize
 }
 
 // How many readings lie ahead of group n, which is where its own begin.
-pub fn ahead(rows: &[Row], n: usize) -> usize
-    requires { (n ≤ length rows.now) × (length rows.now ≤ most_groups) }
+pub fn ahead(rows: &[Row; Sheet::ROWS], n: usize) -> usize
+    requires { n ≤ length rows.now }
     ensures { result ≡ sum_by size_of (take n rows.now) }
 {
     readings_of(&rows[..n])
 }
 
 // Where the readings of group g begin and end.
-pub fn span(rows: &[Row], g: usize) -> (usize, usize)
-    requires { (g < length rows.now) × (length rows.now ≤ most_groups) }
+pub fn span(rows: &[Row; Sheet::ROWS], g: usize) -> (usize, usize)
+    requires { g < length rows.now }
     ensures { result ≡ (sum_by size_of (take g rows.now), sum_by size_of (take (g + 1) rows.now)) }
 {
     (ahead(rows, g), ahead(rows, g + 1))

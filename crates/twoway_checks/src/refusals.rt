@@ -82,7 +82,7 @@ pub fn cells_refusal(
     levels_b: usize,
     n: usize,
 ) -> Result<(), Refusal>
-    requires { (length counts.now ≡ most_cells) × (levels_a ≤ most_levels) × (0 < levels_b) × (levels_b ≤ most_levels) }
+    requires { (levels_a ≤ most_levels) × (0 < levels_b) × (levels_b ≤ most_levels) }
     ensures { result ≡ verdict (cells_refusal levels_a levels_b n (take (levels_a * levels_b) counts.now)) }
 {
     let cells = levels_a * levels_b;

@@ -23,8 +23,8 @@ fn effect_code(levels: usize, u: usize, k: usize) -> f64
 }
 
 // All columns of a factor, from place p on.
-fn codes_from(x: &mut [f64], p: usize, levels: usize, u: usize)
-    requires { (2 ≤ levels) × (levels ≤ most_levels) × (p ≤ most_levels) × (length x.old ≡ most_cells + 1) }
+fn codes_from(x: &mut [f64; ROW], p: usize, levels: usize, u: usize)
+    requires { (2 ≤ levels) × (levels ≤ most_levels) × (p ≤ most_levels) }
     ensures { x.new ≡ codes_from p levels u x.old }
 {
     for k in 0..levels - 1 {
@@ -33,8 +33,8 @@ fn codes_from(x: &mut [f64], p: usize, levels: usize, u: usize)
 }
 
 // The products of one column of A and the columns of B.
-fn products_of(x: &mut [f64], levels: Levels, ka: usize)
-    requires { (ka < levels.a - 1) × (length x.old ≡ most_cells + 1) }
+fn products_of(x: &mut [f64; ROW], levels: Levels, ka: usize)
+    requires { (ka < levels.a - 1) }
     ensures { x.new ≡ products_of levels.a levels.b ka x.old }
 {
     let Levels { a, b } = levels;
@@ -44,8 +44,7 @@ fn products_of(x: &mut [f64], levels: Levels, ka: usize)
     }
 }
 
-fn products(x: &mut [f64], levels: Levels)
-    requires { length x.old ≡ most_cells + 1 }
+fn products(x: &mut [f64; ROW], levels: Levels)
     ensures { x.new ≡ products levels.a levels.b x.old }
 {
     for ka in 0..levels.a - 1 {

@@ -26,7 +26,7 @@ count_cells-cell_n-requires c =
 pub cells_refusal-requires : goal.cells_refusal-requires
 cells_refusal-requires c =
     let k = leveled_told _ _ _ _ c.shape_refusal.ensures c.in_ok-shape_refusal.was _ _ c.largest_of.ensures c.largest_of-2.ensures c.levels_refusal.ensures c.in_ok-levels_refusal.was in
-    (ap length c.count_cells-cell_n.ensures ∙ length_tally _, omega (arith, k.high_a, c.largest_of.ensures), omega arith, omega (arith, k.high_b, c.largest_of-2.ensures))
+    (omega (arith, k.high_a, c.largest_of.ensures), omega arith, omega (arith, k.high_b, c.largest_of-2.ensures))
 
 pub returns-in_err-cells_refusal : goal.returns-in_err-cells_refusal
 unfolding checked_data two_way_refusal

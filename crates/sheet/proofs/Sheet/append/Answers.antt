@@ -11,7 +11,7 @@ returns-in-Err c = edit_refused (Append c.args.group c.args.x) c.args.self c.app
 pub span-at-requires : goal.span-at-requires
 span-at-requires c =
     let rows : length c.args.self.rows ≡ 16 = search rules in
-    (omega (arith, rows, (append_told c.args.self (search rules) c.args.group 0 c.args.x c.in_default.is c.append_refusal.ensures).0), omega (arith, rows))
+    omega (arith, rows, (append_told c.args.self (search rules) c.args.group 0 c.args.x c.in_default.is c.append_refusal.ensures).0)
 
 pub overflow_add-end : goal.overflow_add-end
 overflow_add-end c = omega (arith, spot c.args.self (search rules) c.args.group c.span-at.ensures (append_told c.args.self (search rules) c.args.group 0 c.args.x c.in_default.is c.append_refusal.ensures).0)
@@ -34,7 +34,7 @@ bounds-appended-group c = omega (arith, spot c.args.self (search rules) c.args.g
 pub ahead-used-requires : goal.ahead-used-requires
 ahead-used-requires c =
     let rows : length c.args.self.rows ≡ 16 = search rules in
-    (omega (arith, rows, spot c.args.self (search rules) c.args.group c.span-at.ensures (append_told c.args.self (search rules) c.args.group 0 c.args.x c.in_default.is c.append_refusal.ensures).0), omega (arith, rows))
+    omega (arith, rows, spot c.args.self (search rules) c.args.group c.span-at.ensures (append_told c.args.self (search rules) c.args.group 0 c.args.x c.in_default.is c.append_refusal.ensures).0)
 
 pub insert-requires : goal.insert-requires
 insert-requires c =

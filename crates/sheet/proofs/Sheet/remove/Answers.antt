@@ -12,7 +12,7 @@ returns-in-Err c = edit_refused (Remove c.args.group c.args.place) c.args.self c
 pub span-at-requires : goal.span-at-requires
 span-at-requires c =
     let rows : length c.args.self.rows ≡ 16 = search rules in
-    (omega (arith, rows, (remove_told c.args.self (search rules) c.args.group c.args.place nan c.in_default.is c.remove_refusal.ensures).0), omega (arith, rows))
+    omega (arith, rows, (remove_told c.args.self (search rules) c.args.group c.args.place nan c.in_default.is c.remove_refusal.ensures).0)
 
 pub overflow_add-at : goal.overflow_add-at
 overflow_add-at c = omega (arith, spot c.args.self (search rules) c.args.group c.span-at.ensures (remove_told c.args.self (search rules) c.args.group c.args.place nan c.in_default.is c.remove_refusal.ensures).0)
@@ -44,7 +44,7 @@ slice_bounds-of-start c =
 pub ahead-used-requires : goal.ahead-used-requires
 ahead-used-requires c =
     let rows : length c.args.self.rows ≡ 16 = search rules in
-    (omega (arith, rows, spot c.args.self (search rules) c.args.group c.span-at.ensures (remove_told c.args.self (search rules) c.args.group c.args.place nan c.in_default.is c.remove_refusal.ensures).0), omega (arith, rows))
+    omega (arith, rows, spot c.args.self (search rules) c.args.group c.span-at.ensures (remove_told c.args.self (search rules) c.args.group c.args.place nan c.in_default.is c.remove_refusal.ensures).0)
 
 pub delete-requires : goal.delete-requires
 delete-requires c =

@@ -12,7 +12,7 @@ returns-in-Err c = edit_refused (Replace c.args.group c.args.place c.args.x) c.a
 pub span-at-requires : goal.span-at-requires
 span-at-requires c =
     let rows : length c.args.self.rows ≡ 16 = search rules in
-    (omega (arith, rows, replace_told c.args.self (search rules) c.args.group c.args.place c.args.x c.in_default.is c.replace_refusal.ensures), omega (arith, rows))
+    omega (arith, rows, replace_told c.args.self (search rules) c.args.group c.args.place c.args.x c.in_default.is c.replace_refusal.ensures)
 
 pub overflow_add-replaced : goal.overflow_add-replaced
 overflow_add-replaced c = omega (arith, spot c.args.self (search rules) c.args.group c.span-at.ensures (replace_told c.args.self (search rules) c.args.group c.args.place c.args.x c.in_default.is c.replace_refusal.ensures))

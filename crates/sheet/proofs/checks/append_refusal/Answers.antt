@@ -14,7 +14,7 @@ returns-in_err-replace_refusal c = rw append_order (search rules ∙ ends_there 
 pub ahead-requires : goal.ahead-requires
 ahead-requires c =
     let n : length c.args.rows ≡ 16 = search rules in
-    (omega (arith, n, asked (Replace c.args.group 0 c.args.x) c.args.k c.args.rows (was_passed _ _ c.replace_refusal.ensures c.in_ok-replace_refusal.was)), omega (arith, n))
+    omega (arith, n, asked (Replace c.args.group 0 c.args.x) c.args.k c.args.rows (was_passed _ _ c.replace_refusal.ensures c.in_ok-replace_refusal.was))
 
 pub returns : goal.returns
 returns c =

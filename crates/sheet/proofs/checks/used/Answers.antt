@@ -18,4 +18,4 @@ returns-in-Ok c =
 pub ahead-requires : goal.ahead-requires
 ahead-requires c =
     let n : length c.args.rows ≡ 16 = search rules in
-    (omega (arith, n, sound _ _ (was_passed _ tt c.rows_refusal.ensures c.in-Ok.is)), omega (arith, n))
+    omega (arith, n, sound _ _ (was_passed _ tt c.rows_refusal.ensures c.in-Ok.is))

@@ -7,14 +7,14 @@ use Rattle.base.proofs.Bounds.{product_le}
 use Rattle.twoway_checks.proofs.refusals.cells_refusal.Goals as goal
 
 pub overflow_mul-cells : goal.overflow_mul-cells
-overflow_mul-cells c = omega (arith, product_le 6 6 c.requires.1 c.requires.3)
+overflow_mul-cells c = omega (arith, product_le 6 6 c.requires.0 c.requires.2)
 
 pub returns-in_err-empty_refusal : goal.returns-in_err-empty_refusal
 unfolding cells_refusal
 returns-in_err-empty_refusal c = search rules ∙ ends_there _ _ c.empty_refusal.ensures c.in_err-empty_refusal.was
 
 pub overflow_add-cells : goal.overflow_add-cells
-overflow_add-cells c = omega (arith, product_le 6 6 c.requires.1 c.requires.3)
+overflow_add-cells c = omega (arith, product_le 6 6 c.requires.0 c.requires.2)
 
 pub returns-then-n-cells : goal.returns-then-n-cells
 unfolding cells_refusal
