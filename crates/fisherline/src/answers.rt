@@ -2,7 +2,6 @@
 ghost use Rattle.std.specs.Prelude.{ℕ, ◌≡◌, ◌+◌, ◌≤◌, List, ◌∷◌, length};
 ghost use Rattle.text.specs.Numbers.{numeral_of};
 ghost use Rattle.text.specs.Put.{put_of};
-ghost use Rattle.std.proofs.lemmas.List.Edits.{sets};
 ghost use Rattle.base.specs.Lists.{run};
 ghost use Rattle.fisherline.specs.Rows.{hex_bits, line_of, puts};
 ghost use Rattle.fisherline.specs.Answers.{text_room, refused_text, fisher_text, answer_of};

@@ -16,8 +16,8 @@ use twoway::TwoWayAnovaResult;
 fn one_way(r: OneWayAnovaResult, i: usize) -> f64 {
     let means = r.group_means;
     let sizes = r.group_sizes;
-    let mean = if i < 16 { means[i] } else { 0.0 };
-    let size = if i < 16 { sizes[i] } else { 0 };
+    let mean = means.get(i).copied().unwrap_or(0.0);
+    let size = sizes.get(i).copied().unwrap_or(0);
     let first = r.statistic + r.df_between + r.df_within + r.ss_between + r.ss_within + r.ss_total;
     let second = r.ms_between + r.ms_within + r.grand_mean + mean + (size as f64);
     first + second + (r.refusal.number as f64)
@@ -26,7 +26,7 @@ fn one_way(r: OneWayAnovaResult, i: usize) -> f64 {
 fn edited(e: Edit, i: usize) -> f64 {
     let places = e.sheet.places;
     let rows = e.sheet.rows;
-    let place = if i < 512 { places[i] } else { 0.0 };
+    let place = places.get(i).copied().unwrap_or(0.0);
     let mean = if i < 16 { rows[i].mean } else { 0.0 };
     let sq_dev = if i < 16 { rows[i].sq_dev } else { 0.0 };
     let size = if i < 16 { rows[i].size } else { 0 };
@@ -41,9 +41,9 @@ fn two_way(r: TwoWayAnovaResult, i: usize) -> f64 {
     let cells = r.cell_means;
     let means_a = r.marginal_means_a;
     let means_b = r.marginal_means_b;
-    let cell = if i < 36 { cells[i] } else { 0.0 };
-    let a = if i < 6 { means_a[i] } else { 0.0 };
-    let b = if i < 6 { means_b[i] } else { 0.0 };
+    let cell = cells.get(i).copied().unwrap_or(0.0);
+    let a = means_a.get(i).copied().unwrap_or(0.0);
+    let b = means_b.get(i).copied().unwrap_or(0.0);
     let rows = row(r.factor_a)
         + row(r.factor_b)
         + row(r.interaction)
@@ -64,8 +64,8 @@ fn corrected(r: CorrectedResult) -> f64 {
 fn measures(r: RmAnovaResult, i: usize) -> f64 {
     let conditions = r.condition_means;
     let subjects = r.subject_means;
-    let condition = if i < 12 { conditions[i] } else { 0.0 };
-    let subject = if i < 64 { subjects[i] } else { 0.0 };
+    let condition = conditions.get(i).copied().unwrap_or(0.0);
+    let subject = subjects.get(i).copied().unwrap_or(0.0);
     let rows = row(r.within_subjects) + row(r.subjects) + row(r.error) + row(r.total);
     let sphericity = r.sphericity.w
         + r.sphericity.df
@@ -106,7 +106,7 @@ pub extern "C" fn call_one_way_anova_levene(readings: &[f64], sizes: &[u32], i: 
     one_way(oneway::one_way_anova(readings, sizes, AnovaKind::Levene), i)
 }
 
-// `report` with the rows that the groups have.
+// `report` with the rows that the groups have. Each kind has its body, since the stack's table measures each.
 #[unsafe(no_mangle)]
 pub extern "C" fn call_report_fisher(readings: &[f64], sizes: &[u32], i: usize) -> f64 {
     let stats = oneway_rows::validate_anova_groups(readings, sizes);
@@ -342,7 +342,7 @@ pub extern "C" fn call_read_set(set: &[u8], i: usize) -> f64 {
     match set::read_set(set) {
         Ok(r) => {
             let readings = r.readings;
-            readings.get(i).copied().unwrap_or(0.0)
+            readings.get(i).copied().unwrap_or(0.0) + 0.0
         }
         Err(refusal) => refusal.number as f64,
     }

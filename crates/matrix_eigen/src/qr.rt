@@ -1,4 +1,5 @@
 // Gram and Schmidt on the columns of a matrix of n rows of n places.
+// Loops go by number where a place of lent memory is set: of what an iterator over `&mut` wrote a proof knows the length alone.
 ghost use Rattle.std.specs.Prelude.{◌≡◌, ◌*◌, ◌≤◌, ◌<◌, length};
 ghost use Rattle.base.specs.Limits.{scratch_places};
 ghost use Rattle.matrix_places.specs.Places.{most_contrasts};

@@ -1,4 +1,5 @@
 // The rounds of the QR iteration.
+// Loops go by number where the places that are read lie apart.
 ghost use Rattle.std.specs.Prelude.{◌≡◌, ◌*◌, ◌≤◌, ◌<◌, length};
 ghost use Rattle.matrix_places.specs.Places.{most_contrasts};
 ghost use Rattle.matrix_eigen.specs.Values.{round, rounds, diagonal};

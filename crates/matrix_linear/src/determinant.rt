@@ -1,4 +1,5 @@
 // The determinant.
+// Loops go by number where the places that are read lie apart.
 ghost use Rattle.std.specs.Prelude.{◌≡◌, ◌*◌, ◌≤◌, ◌<◌, length};
 ghost use Rattle.matrix_linear.specs.Determinant.{turned, det_column, det_columns, diagonal_product, det_end, two_by_two, det_of};
 
@@ -17,6 +18,7 @@ pub fn turned(a: usize, b: usize, s: f64) -> f64
     -s
 }
 
+// The sign +0.0 says that there is no pivot, as in the definition `det_column`.
 // One column: the sign after it, +0.0 where there is no pivot or was none before.
 #[tactic(auto, using(crate::proofs::Columns::det_stopped, crate::proofs::Columns::det_pivotless, crate::proofs::Columns::det_swept, base::proofs::Bounds::row_end))]
 pub fn det_column(m: &mut [f64], n: usize, col: usize, s: f64) -> f64

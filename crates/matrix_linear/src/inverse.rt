@@ -1,4 +1,5 @@
 // Gauss and Jordan on the rows of a matrix and, beside it, the unit matrix.
+// Loops go by number where a place of lent memory is set: of what an iterator over `&mut` wrote a proof knows the length alone.
 ghost use Rattle.std.specs.Prelude.{◌≡◌, ◌+◌, ◌*◌, ◌≤◌, ◌<◌, length};
 ghost use Rattle.matrix_linear.specs.Inverse.{zero_right, unit_row, unit, clear_other, clear_others};
 

@@ -1,4 +1,5 @@
 // Pivots, and the rows below one.
+// Loops go by number where the places that are read lie apart.
 ghost use Rattle.std.specs.Prelude.{◌≡◌, ◌+◌, ◌*◌, ◌≤◌, ◌<◌, length};
 ghost use Rattle.matrix_linear.specs.Rows.{better, pivot_row, pivoted, clear_row, clear_below};
 

@@ -1,4 +1,5 @@
 // Rows that change places. They lie w places apart; where one begins is worked out before the loop.
+// Loops go by number where a place of lent memory is set: of what an iterator over `&mut` wrote a proof knows the length alone.
 ghost use Rattle.std.specs.Prelude.{◌≡◌, ◌+◌, ◌*◌, ◌≤◌, length};
 ghost use Rattle.matrix_linear.specs.Rows.{swap_rows};
 

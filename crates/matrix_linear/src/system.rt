@@ -1,4 +1,5 @@
 // Back substitution of a linear system.
+// Loops go by number where the places that are read lie apart.
 ghost use Rattle.std.specs.Prelude.{◌≡◌, ◌+◌, ◌*◌, ◌≤◌, ◌<◌, length};
 ghost use Rattle.matrix_linear.specs.System.{back_sum, back_value, back_row, backward};
 

@@ -1,4 +1,5 @@
 // Gram and Schmidt on rows, in place.
+// Loops go by number where the places that are read lie apart.
 ghost use Rattle.std.specs.Prelude.{◌≡◌, ◌+◌, ◌*◌, ◌≤◌, length};
 ghost use Rattle.base.specs.Limits.{most_conditions};
 ghost use Rattle.matrix_orthonormal.specs.Orthonormal.{row_dot, project_row, project_rows, normalize_row, orthonormal_row, orthonormal_rows};

@@ -1,5 +1,6 @@
 // Places of flat matrices: whether there is room for them, the sums of products and the steps on rows that the matrix crates are made of.
 // The lent rows and their sizes stay parameters: a struct of them would have each clause say, beside what the rows become, that the sizes stay.
+// Loops go by number where the places that are read lie apart.
 #![tactic(auto)]
 
 ghost use Rattle.std.specs.Prelude.{◌≡◌, length};

@@ -1,4 +1,5 @@
 // The rows of a product, for matrices that fit.
+// Loops go by number where a place of lent memory is set: of what an iterator over `&mut` wrote a proof knows the length alone.
 ghost use Rattle.std.specs.Prelude.{◌≡◌, ◌+◌, ◌*◌, ◌≤◌, ◌<◌, length};
 ghost use Rattle.base.specs.Limits.{most_conditions};
 ghost use Rattle.matrix_product.specs.Product.{product_row, product};

@@ -28,6 +28,7 @@ fn ss_within(rows: &[Row]) -> f64
     float::canon(rows.iter().fold(-0.0, |t, row| t + row.sq_dev))
 }
 
+// `Small rows` stays a clause: a struct round the slice would be taken apart again in each of the three functions that ask it.
 pub fn fisher_anova(rows: &[Row], readings: &[f64]) -> OneWayAnovaResult
     requires { Small rows.now }
     ensures { result ≡ fisher_anova rows.now readings.now }

@@ -1,4 +1,5 @@
 // Levene's analysis: Fisher's, of the distances of the readings from their groups' means.
+// Loops go by number where a place of lent memory is set: of what an iterator over `&mut` wrote a proof knows the length alone.
 ghost use Rattle.std.specs.Prelude.{◌≡◌, length};
 ghost use mathlib.Core.List.{map, flatten};
 ghost use Rattle.base.specs.Lists.{cut};

@@ -1,4 +1,5 @@
 // One-way analysis of variance, Fisher's, Welch's and Levene's, from the groups' rows.
+// Readings and sizes are two slices, as document 01 has them: refusal 10 tells their sums.
 #![tactic(auto)]
 
 mod fisher;

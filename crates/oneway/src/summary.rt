@@ -1,4 +1,5 @@
 // What every analysis tells of its groups, from their rows. Zeros stand behind the groups' numbers.
+// Loops go by number where a place of lent memory is set: of what an iterator over `&mut` wrote a proof knows the length alone.
 ghost use Rattle.std.specs.Prelude.{◌≡◌, ◌≤◌, map, length};
 ghost use Rattle.std.specs.List.{sum_by};
 ghost use Rattle.base.specs.Lists.{cut, over};

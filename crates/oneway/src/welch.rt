@@ -1,4 +1,5 @@
 // Welch's analysis, which lets the groups' variances differ: each group has a weight.
+// Loops go by number where a place of lent memory is set: of what an iterator over `&mut` wrote a proof knows the length alone.
 ghost use Rattle.std.specs.Prelude.{◌≡◌, ◌≤◌, length};
 ghost use Rattle.base.specs.Limits.{most_groups};
 ghost use Rattle.base.specs.Lists.{over};

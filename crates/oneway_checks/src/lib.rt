@@ -1,12 +1,10 @@
 // The door of one-way analysis: its checks in document 01's order, and the view of one group.
+// Readings and sizes are two slices, as document 01 has them: refusal 10 tells their sums.
 #![tactic(auto)]
 
-ghost use Rattle.std.specs.Prelude.{◌≡◌, false, ◌≤◌, length};
+ghost use Rattle.std.specs.Prelude.{◌≡◌};
 ghost use Rattle.base.specs.Lists.{cut};
-ghost use Rattle.base.specs.Inner.{Sized};
 ghost use Rattle.base.specs.Refusals.{verdict};
-ghost use Rattle.base.specs.Limits.{most_groups};
-ghost use Rattle.stats.specs.Sums.{has_nan};
 ghost use Rattle.oneway_checks.specs.Inner.{sought_fault};
 ghost use Rattle.oneway_checks.specs.Checks.{groups_refusal, one_way_refusal, view_refusal, view_of};
 

@@ -1,4 +1,6 @@
 // One-way data: the row that each group is worked into, and the rows of all groups.
+// Readings and sizes are two slices, as document 01 has them: refusal 10 tells their sums.
+// Loops go by number where a place of lent memory is set: of what an iterator over `&mut` wrote a proof knows the length alone.
 #![tactic(auto)]
 
 pub mod sound;

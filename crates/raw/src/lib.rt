@@ -103,6 +103,7 @@ pub extern "C" fn raw_variance(readings: &[f64], out: &mut [f64]) -> u32 {
 
 // ---- one-way data: rows, analyses, the sheet, the reading set
 
+// C hands in and takes out numbers and lists beside each other.
 // 0 is Fisher's, 1 Welch's, and any other number Levene's: the numbers are what the program in C hands in.
 fn kind_of(kind: u32) -> AnovaKind {
     match kind {
@@ -131,42 +132,12 @@ fn hand_out_one_way(r: OneWayAnovaResult, figures: &mut [f64], means: &mut [f64]
 }
 
 fn hand_out_rows(rows: [Row; 16], means: &mut [f64], sq_devs: &mut [f64]) {
-    let all_means = [
-        rows[0].mean,
-        rows[1].mean,
-        rows[2].mean,
-        rows[3].mean,
-        rows[4].mean,
-        rows[5].mean,
-        rows[6].mean,
-        rows[7].mean,
-        rows[8].mean,
-        rows[9].mean,
-        rows[10].mean,
-        rows[11].mean,
-        rows[12].mean,
-        rows[13].mean,
-        rows[14].mean,
-        rows[15].mean,
-    ];
-    let all_sq_devs = [
-        rows[0].sq_dev,
-        rows[1].sq_dev,
-        rows[2].sq_dev,
-        rows[3].sq_dev,
-        rows[4].sq_dev,
-        rows[5].sq_dev,
-        rows[6].sq_dev,
-        rows[7].sq_dev,
-        rows[8].sq_dev,
-        rows[9].sq_dev,
-        rows[10].sq_dev,
-        rows[11].sq_dev,
-        rows[12].sq_dev,
-        rows[13].sq_dev,
-        rows[14].sq_dev,
-        rows[15].sq_dev,
-    ];
+    let mut all_means = [0.0; base::MOST_GROUPS];
+    let mut all_sq_devs = [0.0; base::MOST_GROUPS];
+    for (g, row) in rows.iter().enumerate() {
+        all_means[g] = row.mean;
+        all_sq_devs[g] = row.sq_dev;
+    }
     lent::put(means, &all_means);
     lent::put(sq_devs, &all_sq_devs);
 }
@@ -332,7 +303,7 @@ pub extern "C" fn raw_sheet_load(
     hand_out_edit(Sheet::load(readings, sizes), places, means, sq_devs)
 }
 
-// The edits 1 replace, 2 append and any other number remove, in place: the sheet lies in the three lists, and the one after the edit takes its place there.
+// The edits 1 replace, 2 append and any other number remove, which are the numbers that C hands in, in place: the sheet lies in the three lists, and the one after the edit takes its place there.
 #[unsafe(no_mangle)]
 pub extern "C" fn raw_sheet_edit(
     places: &mut [f64],
@@ -404,19 +375,7 @@ pub extern "C" fn raw_set_anova(
 
 // ---- lists of a length that the prover is told, so that it need not find it among a long function's facts
 
-fn put_6(out: &mut [f64], numbers: [f64; 6]) {
-    lent::put(out, &numbers);
-}
-
-fn put_12(out: &mut [f64], numbers: [f64; 12]) {
-    lent::put(out, &numbers);
-}
-
-fn put_36(out: &mut [f64], numbers: [f64; 36]) {
-    lent::put(out, &numbers);
-}
-
-fn put_64(out: &mut [f64], numbers: [f64; 64]) {
+fn put_n<const N: usize>(out: &mut [f64], numbers: [f64; N]) {
     lent::put(out, &numbers);
 }
 
@@ -515,9 +474,9 @@ pub extern "C" fn raw_cell_table(
     let all_b = t.marginal_means_b;
     let numbers = [t.ss_error];
     lent::put(error, &numbers);
-    put_36(cells, cell_means);
-    put_6(means_a, all_a);
-    put_6(means_b, all_b);
+    put_n(cells, cell_means);
+    put_n(means_a, all_a);
+    put_n(means_b, all_b);
 }
 
 #[unsafe(no_mangle)]
@@ -592,9 +551,9 @@ fn hand_out_two_way(
     let all_a = r.marginal_means_a;
     let all_b = r.marginal_means_b;
     lent::put(table, &numbers);
-    put_36(cells, cell_means);
-    put_6(means_a, all_a);
-    put_6(means_b, all_b);
+    put_n(cells, cell_means);
+    put_n(means_a, all_a);
+    put_n(means_b, all_b);
 }
 
 #[unsafe(no_mangle)]
@@ -685,8 +644,8 @@ pub extern "C" fn raw_rm_table(
         t.ss_error,
     ];
     lent::put(figures, &numbers);
-    put_64(subjects, subject_means);
-    put_12(conditions, condition_means);
+    put_n(subjects, subject_means);
+    put_n(conditions, condition_means);
 }
 
 #[unsafe(no_mangle)]
@@ -746,8 +705,8 @@ fn hand_out_repeated(
     let subject_means = r.subject_means;
     lent::put(table, &numbers);
     hand_out_corrections(w, gg, hf, corrections);
-    put_12(conditions, condition_means);
-    put_64(subjects, subject_means);
+    put_n(conditions, condition_means);
+    put_n(subjects, subject_means);
     r.refusal.number
 }
 

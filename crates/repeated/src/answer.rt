@@ -15,6 +15,7 @@ fn asked(compute_sphericity: bool, k: usize) -> bool
     compute_sphericity && 3 <= k
 }
 
+// F and its degrees of freedom are three parameters, as in the Rust's call.
 // The results of sphericity, or zeros where it is not asked for.
 fn corrections(
     readings: &[f64],

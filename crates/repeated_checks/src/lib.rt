@@ -1,4 +1,5 @@
 // Repeated measures: the checks at the door, in document 01's order.
+// Readings and sizes are two slices, as document 01 has them: refusal 10 tells their sums.
 #![tactic(auto)]
 
 ghost use Rattle.std.specs.Prelude.{◌≡◌};

@@ -1,4 +1,5 @@
 // The readings of all subjects, and the covariances of all pairs of conditions. They need not be canonical: what is made of them is.
+// Loops go by number where a place of lent memory is set: of what an iterator over `&mut` wrote a proof knows the length alone.
 ghost use Rattle.std.specs.Prelude.{◌≡◌, ◌+◌, ◌*◌, ◌≤◌, ◌<◌, length};
 ghost use Rattle.base.specs.Limits.{most_subjects, most_conditions};
 ghost use Rattle.repeated_contrasts.specs.Covariance.{covariance, cov_row, cov_rows};

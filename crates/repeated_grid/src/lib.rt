@@ -1,4 +1,5 @@
 // Repeated measures: the table of subjects and conditions.
+// Loops go by number where a place of lent memory is set: of what an iterator over `&mut` wrote a proof knows the length alone.
 #![tactic(auto)]
 
 ghost use Rattle.std.specs.Prelude.{◌≡◌, ◌*◌, ◌<◌, ◌≤◌, length};
@@ -106,6 +107,7 @@ fn add_row(sums: &mut [f64], row: &[f64])
     }
 }
 
+// Zeros, as document 01 has them.
 fn no_table() -> RmTable
     ensures { result ≡ no_table }
 {

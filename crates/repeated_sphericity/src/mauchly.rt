@@ -1,4 +1,5 @@
 // Mauchly's W of a matrix of p rows of p places.
+// Loops go by number where the places that are read lie apart.
 ghost use Rattle.std.specs.Prelude.{◌≡◌, ◌≤◌};
 ghost use Rattle.matrix_places.specs.Places.{most_contrasts};
 ghost use Rattle.repeated_sphericity.specs.Corrections.{sphericity_of};
@@ -6,6 +7,7 @@ ghost use Rattle.repeated_sphericity.specs.Mauchly.{trace, mean_trace, det, w_ra
 
 use results::SphericityResult;
 
+// Memory is fixed and nothing is on a heap: the places have their number of rows beside them.
 // C S C': p rows of p places, in the first of so many as there may be.
 #[derive(Clone, Copy)]
 pub struct Csc {

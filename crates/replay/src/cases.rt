@@ -26,6 +26,7 @@ pub struct Head {
 }
 
 impl Head {
+    // There is no third answer for a head that is not yet whole: it needs more bytes, as a case does that is cut short.
     // The head of the case at the front of these bytes; none where one of its counts is beyond the limit. One that is not yet whole is a head with no lists, whose
     // case needs more bytes.
     pub fn of(bytes: &[u8]) -> Option<Head> {

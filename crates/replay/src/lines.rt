@@ -3,6 +3,7 @@
 use base::Refusal;
 use std::io::{Print, Stdout};
 
+// Memory is fixed and nothing is on a heap: the bytes have beside them how many are used.
 // The answers that are not yet written, in the front of a buffer.
 #[derive(Drop)]
 pub struct Out<'a> {

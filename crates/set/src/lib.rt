@@ -1,4 +1,5 @@
 // The reading set: one-way data as bytes. First the contents, the group count and each group's size in two bytes; then the readings, eight bytes each. All little endian.
+// Loops go by number where a place of lent memory is set: of what an iterator over `&mut` wrote a proof knows the length alone.
 #![tactic(auto)]
 
 ghost use Rattle.std.specs.Prelude.{◌≡◌, map, ◌≤◌, ◌*◌, length};

@@ -71,6 +71,7 @@ impl Sheet {
         }
     }
 
+    // Each edit writes its answer out: the edits `Sheet.replace--..`, `Sheet.append--..` and `Sheet.remove--..` change single lines of it.
     // x in place of a reading.
     pub fn replace(self, group: usize, place: usize, x: f64) -> Edit
         ensures { result ≡ call_of (Call.Replace group place x) self }

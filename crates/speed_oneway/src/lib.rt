@@ -52,6 +52,7 @@ fn analyse(readings: &[f64], sizes: &[u32], out: &mut [f64], kind: AnovaKind) ->
     0
 }
 
+// C asks for each kind by its name.
 #[unsafe(no_mangle)]
 pub extern "C" fn speed_fisher(readings: &[f64], sizes: &[u32], out: &mut [f64]) -> u32
     ensures { (out.new, result) ≡ timed Fisher readings.now sizes.now out.old }

@@ -1,4 +1,5 @@
 // A history of edits with a report after each.
+// Loops go by number where a place of lent memory is set: of what an iterator over `&mut` wrote a proof knows the length alone.
 ghost use Rattle.std.specs.Prelude.{◌≡◌, get_or};
 ghost use Rattle.sheet.specs.Calls.{called};
 ghost use Rattle.speed_sheet.specs.Histories.{call_with, reports_of, history_of};

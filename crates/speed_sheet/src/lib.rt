@@ -9,6 +9,7 @@ ghost use Rattle.speed_sheet.specs.Histories.{history_of};
 
 use oneway::AnovaKind;
 
+// C asks for each kind by its name.
 // A sheet, loaded once and edited as often as `out` has places, and the F of a report after each edit.
 #[unsafe(no_mangle)]
 pub extern "C" fn speed_history_fisher(

@@ -1,10 +1,11 @@
 // The gauge study: how much of the readings' variance meters, benches and their interaction account for, from a balanced two-way analysis.
+// Readings and the codes of both factors are three slices, as document 01 has them: refusal 5 tells their lengths.
 #![tactic(auto)]
 
 ghost use Rattle.std.specs.Prelude.{◌≡◌, ◌*◌, ◌≤◌, length};
 ghost use Rattle.base.specs.Limits.{most_levels, most_readings};
 ghost use Rattle.base.specs.Refusals.{verdict};
-ghost use Rattle.study.specs.Study.{balance_refusal, study_refusal, refused_study, component_of, components_of, gauge_study};
+ghost use Rattle.study.specs.Study.{balance_refusal, refused_study, component_of, components_of, gauge_study};
 
 use base::Refusal;
 use twoway::TwoWayAnovaResult;

@@ -1,4 +1,5 @@
 // Two-way analysis of variance with Type III sums of squares.
+// Readings and the codes of both factors are three slices, as document 01 has them: refusal 5 tells their lengths.
 #![tactic(auto)]
 
 mod squares;

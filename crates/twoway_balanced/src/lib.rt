@@ -1,16 +1,19 @@
 // The sums of squares of a balanced two-way design: as many readings in each cell, so that the cells' means tell all.
+// Loops go by number where the places that are read lie apart.
+// The numbers of levels are two parameters: `Levels` is of the crates above.
 #![tactic(auto)]
 
 ghost use Rattle.std.specs.Prelude.{◌≡◌, ℕ, ◌+◌, ◌*◌, ◌≤◌, ◌<◌, length};
 ghost use Rattle.base.specs.Limits.{most_cells, most_levels};
 ghost use Rattle.base.specs.Inner.{Line};
-ghost use Rattle.twoway_balanced.specs.Squares.{unlike, other_count, mean_line, mean_margins, ab_row, ss_ab, effects_of, balanced_ss};
+ghost use Rattle.twoway_balanced.specs.Squares.{other_count, mean_line, mean_margins, ab_row, ss_ab, effects_of, balanced_ss};
 ghost use Rattle.twoway_balanced.specs.Inner.{Fitting};
 
 use results::Effects;
 
 // The first count that differs from the first of them; the first itself where none does, 0 where there is none.
 #[tactic(auto, unfolding(crate::specs::Squares::other_count, crate::specs::Squares::unlike))]
+// No Option: the definition and the edits `other_count--..` say what stands for none.
 pub fn other_count(counts: &[usize]) -> usize
     ensures { result ≡ other_count counts.now }
 {

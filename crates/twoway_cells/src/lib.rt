@@ -1,4 +1,5 @@
 // The readings of a two-way design sorted into the cells of two factors.
+// Readings and the codes of both factors are three slices, as document 01 has them: refusal 5 tells their lengths.
 #![tactic(auto)]
 
 mod sort;

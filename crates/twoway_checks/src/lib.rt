@@ -1,4 +1,5 @@
 // The checks of two-way data, and the design that they leave known: the levels of both factors, and how many readings each cell has.
+// Readings and the codes of both factors are three slices, as document 01 has them: refusal 5 tells their lengths.
 #![tactic(auto)]
 
 mod refusals;

@@ -1,6 +1,6 @@
 // The checks one by one.
-ghost use Rattle.std.specs.Prelude.{◌≡◌, ◌<◌, ◌≤◌, ◌*◌, length, take};
-ghost use Rattle.base.specs.Limits.{most_cells, most_levels};
+ghost use Rattle.std.specs.Prelude.{◌≡◌, ◌<◌, ◌≤◌, ◌*◌, take};
+ghost use Rattle.base.specs.Limits.{most_levels};
 ghost use Rattle.base.specs.Refusals.{verdict};
 ghost use Rattle.twoway_checks.specs.Checks.{largest, shape_refusal, levels_refusal, empty_refusal, cells_refusal};
 

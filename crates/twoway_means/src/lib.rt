@@ -1,7 +1,9 @@
 // The cells of a two-way design told in numbers: their means, the means of each factor's levels, and the squared distances within the cells.
+// Loops go by number where a place of lent memory is set: of what an iterator over `&mut` wrote a proof knows the length alone.
+// The numbers of levels are two parameters: `Levels` is of the crates above.
 #![tactic(auto)]
 
-ghost use Rattle.std.specs.Prelude.{◌≡◌, ℕ, ◌+◌, ◌*◌, ◌≤◌, ◌<◌, List, Float, length, take, leb};
+ghost use Rattle.std.specs.Prelude.{◌≡◌, ℕ, ◌*◌, ◌≤◌, ◌<◌, List, Float, length, take, leb};
 ghost use mathlib.Core.List.{foldl};
 ghost use Rattle.base.specs.Limits.{most_cells, most_levels, most_readings};
 ghost use Rattle.base.specs.Inner.{Line};
@@ -153,6 +155,7 @@ impl<'a> Cells<'a> {
 }
 
 #[tactic(auto, unfolding(crate::specs::Table::no_cells, crate::specs::Table::no_levels))]
+// Zeros, as document 01 has them.
 fn no_table() -> CellTable
     ensures { result ≡ no_table }
 {

@@ -1,6 +1,7 @@
 // The row of the design matrix that the readings of a cell have, by effect coding.
-ghost use Rattle.std.specs.Prelude.{◌≡◌, ◌+◌, ◌-◌, ◌≤◌, ◌<◌, length};
-ghost use Rattle.base.specs.Limits.{most_cells, most_levels};
+// Loops go by number where a place of lent memory is set: of what an iterator over `&mut` wrote a proof knows the length alone.
+ghost use Rattle.std.specs.Prelude.{◌≡◌, ◌-◌, ◌≤◌, ◌<◌};
+ghost use Rattle.base.specs.Limits.{most_levels};
 ghost use Rattle.twoway_normal.specs.Coding.{effect_code, codes_from, products_of, products, design_row};
 
 use crate::levels::Levels;

@@ -1,4 +1,5 @@
 // The normal equations of a two-way design, in memory that the caller lends.
+// Readings and the codes of both factors are three slices, as document 01 has them: refusal 5 tells their lengths.
 #![tactic(auto)]
 
 mod codes;

@@ -1,11 +1,11 @@
 // The normal equations. X'X is taken from the counts of the cells, X'y reading by reading.
+// Loops go by number where a place of lent memory is set: of what an iterator over `&mut` wrote a proof knows the length alone.
 ghost use Rattle.std.specs.Prelude.{◌≡◌, ◌+◌, ◌*◌, ◌≤◌, ◌<◌, length};
 ghost use Rattle.base.specs.Limits.{scratch_places};
-ghost use Rattle.base.specs.Lists.{part};
 ghost use Rattle.float.specs.Words.{◌⊗◌};
 ghost use Rattle.twoway_normal.specs.Counted.{cells_of, counts_of, most_counts};
-ghost use Rattle.twoway_normal.specs.Equations.{rows_from, laid_system};
-ghost use Rattle.twoway_normal.specs.Inner.{Fitting, CellAdded, CellsAdded, Kept, Aside, add_row, add_products, add_cells, add_value, ValueSums, put_column};
+ghost use Rattle.twoway_normal.specs.Equations.{laid_system};
+ghost use Rattle.twoway_normal.specs.Inner.{Fitting, CellAdded, CellsAdded, Kept, add_row, add_products, add_value, ValueSums, put_column};
 
 use crate::codes::design_row;
 use crate::counts::{cell_of, count_cells};
@@ -35,6 +35,7 @@ fn add_products(x: &[f64], n: f64, p: usize, w: usize, m: &mut [f64])
     }
 }
 
+// The lent memory stays a parameter, and its length a clause: with a struct of it each clause would say, beside what it becomes, that its length stays.
 // The cell c has n readings: its products are added, and its row of codes is kept. A cell without readings is passed over.
 fn add_cell(levels: Levels, c: usize, n: u32, work: &mut [f64])
     requires { (c < cells_of levels.a levels.b) × (scratch_places ≤ length work.old) }

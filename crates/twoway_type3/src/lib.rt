@@ -1,5 +1,6 @@
 // Type III sums of squares of an unbalanced two-way design, in memory that the caller lends.
 // The lent rows and their sizes stay parameters: a struct of them would have each clause say, beside what the rows become, that the sizes stay.
+// Readings and the codes of both factors are three slices, as document 01 has them: refusal 5 tells their lengths.
 #![tactic(auto)]
 
 mod half;
