@@ -1,4 +1,4 @@
-// Which module answers a kind. A new kind is a line in each of the two lists here, and a function of its wing's module that works it out and puts its lines: it may use the
+// Which module answers a kind. A new kind is a line in each of the three lists here, and a function of its wing's module that works it out and puts its lines: it may use the
 // option, the sizes, the codes of both factors, and the readings.
 use crate::cases::Case;
 use crate::lines::Out;

@@ -29,9 +29,8 @@ fn side(case: &Case, most: usize, extra: usize) -> Option<usize>
 
 // As many numbers as both have.
 fn copy(to: &mut [f64], from: &[f64]) {
-    for (place, x) in to.iter_mut().zip(from) {
-        *place = *x;
-    }
+    let n = to.len().min(from.len());
+    to[..n].copy_from_slice(&from[..n]);
 }
 
 // The part from column n on of each of n rows of w places.

@@ -111,9 +111,7 @@ fn held<'a>(case: &Case<'a>) -> Option<(Sheet, &'a [f64])> {
         rows: [Sheet::empty_row(); Sheet::ROWS],
         groups: case.option as usize,
     };
-    for (place, x) in s.places.iter_mut().zip(places) {
-        *place = *x;
-    }
+    s.places[..n].copy_from_slice(places);
     for (g, row) in s.rows.iter_mut().enumerate() {
         *row = Row {
             size: case.sizes.get(g).copied().unwrap_or(0),

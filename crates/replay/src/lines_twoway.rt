@@ -8,26 +8,30 @@ use twoway::TwoWayAnovaResult;
 const MOST_LENT: usize = 6500;
 
 // The option says how much scratch is lent. Each of its places holds 1.5 before the call.
-pub fn two_way(out: &mut Out, case: &Case, skips: bool) {
+fn lending<F: FnOnce(&mut Out, &mut [f64])>(out: &mut Out, case: &Case, lines: F)
+    requires { F.IsAlwaysCallable lines }
+{
     let mut scratch = [1.5; MOST_LENT];
     if let Some(lent) = scratch.get_mut(..case.option as usize) {
-        let r = twoway::two_way_anova(case.readings, case.a, case.b, lent);
-        two_way_lines(out, r, skips);
+        lines(out, lent);
         scratch_line(out, lent);
     } else {
         out.bad_case();
     }
 }
 
+pub fn two_way(out: &mut Out, case: &Case, skips: bool) {
+    lending(out, case, |out, lent| {
+        let r = twoway::two_way_anova(case.readings, case.a, case.b, lent);
+        two_way_lines(out, r, skips);
+    });
+}
+
 pub fn study(out: &mut Out, case: &Case) {
-    let mut scratch = [1.5; MOST_LENT];
-    if let Some(lent) = scratch.get_mut(..case.option as usize) {
+    lending(out, case, |out, lent| {
         let r = study::gauge_study(case.readings, case.a, case.b, lent);
         study_lines(out, r);
-        scratch_line(out, lent);
-    } else {
-        out.bad_case();
-    }
+    });
 }
 
 fn two_way_lines(out: &mut Out, r: TwoWayAnovaResult, skips: bool) {
