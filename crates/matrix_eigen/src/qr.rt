@@ -15,6 +15,7 @@ pub fn wipe(m: &mut [f64], k: usize)
 }
 
 // Column j of a, to the first n places of v.
+#[tactic(auto, using(base::proofs::Loops::step, base::proofs::Loops::ends), unfolding(crate::specs::Qr::column_of))]
 pub fn take_column(a: &[f64], n: usize, j: usize, v: &mut [f64])
     requires { (j < n) × ((n * n ≤ length a.now) × (n ≤ length v.old)) }
     ensures { v.new ≡ column_of n a.now j v.old }
@@ -25,6 +26,7 @@ pub fn take_column(a: &[f64], n: usize, j: usize, v: &mut [f64])
 }
 
 // v less f times column i of q.
+#[tactic(auto, using(base::proofs::Loops::step, base::proofs::Loops::ends), unfolding(crate::specs::Qr::less_column))]
 pub fn less_column(q: &[f64], n: usize, i: usize, f: f64, v: &mut [f64])
     requires { (i < n) × ((n * n ≤ length q.now) × (n ≤ length v.old)) }
     ensures { v.new ≡ less_column n q.now i f v.old }
@@ -56,6 +58,7 @@ pub fn projections(a: &[f64], q: &[f64], n: usize, j: usize, v: &mut [f64], r: &
 }
 
 // v over d becomes column j of q.
+#[tactic(auto, using(base::proofs::Loops::step, base::proofs::Loops::ends), unfolding(crate::specs::Qr::put_column))]
 pub fn put_column(v: &[f64], n: usize, j: usize, d: f64, q: &mut [f64])
     requires { (j < n) × ((n ≤ length v.now) × (n * n ≤ length q.old)) }
     ensures { q.new ≡ put_column n v.now j d q.old }

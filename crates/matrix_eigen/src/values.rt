@@ -31,6 +31,7 @@ pub fn rounds(m: &mut [f64], n: usize)
 }
 
 // The diagonal, to the first n places of values.
+#[tactic(auto, using(base::proofs::Loops::step, base::proofs::Loops::ends), unfolding(crate::specs::Values::diagonal))]
 pub fn diagonal(m: &[f64], n: usize, values: &mut [f64])
     requires { (n * n ≤ length m.now) × (n ≤ length values.old) }
     ensures { values.new ≡ diagonal n m.now values.old }
