@@ -23,6 +23,10 @@ module _ {S : Type 0} where
   pub ends : (i n : ℕ) (f : ℕ → S → S) (s t : S) → loop i n f s ≡ t → n ≤ i → s ≡ t
   ends i n f s t e h = rw done at e
 
+  -- the same for a loop that is walked from its end: i turns are left
+  pub step_back : (i n : ℕ) (f : ℕ → S → S) (s s' t : S) → loop (n - i) n f s ≡ t → 0 < i → i ≤ n → s' ≡ f (n - i) s → loop (n - (i - 1)) n f s' ≡ t
+  step_back i n f s s' t e h k q = let a : n - (i - 1) ≡ n - i + 1 = omega arith in rw a (step (n - i) n f s s' t e (omega arith) q)
+
   turns_keep : (P : S → Type 0) (n : ℕ) (f : ℕ → S → S) → ((j : ℕ) (s : S) → j < n → P s → P (f j s)) → (r j : ℕ) (s : S) → j + r ≤ n → P s → P (turns j r f s)
   unfolding turns
   turns_keep P n f k zero j s l p = p

@@ -2,14 +2,13 @@
 use Prim.Native.Nat.{ℕ, ◌+◌, ◌-◌, ◌<◌, ◌≤◌}
 use mathlib.Core.Path.{◌≡◌, sym}
 use mathlib.Core.List.{List, [], ◌∷◌}
-use native.Mathlib.Omega.{arith}
 use lib.ListN.{length, take, drop, get_or}
 use Rattle.base.specs.declared.Refusal.{Refusal}
-use Rattle.base.specs.Lists.{total, cut}
+use Rattle.base.specs.Lists.{cut}
 use Rattle.base.specs.Refusals.{none, verdict, ◌or_else◌, first_fault}
 use Rattle.std.specs.Prelude.{Result, Ok, Err, ⊤}
-use Rattle.base.proofs.Cuts.{cut_turn, cut_done, cut_next, cut_over, total_turn}
-use Rattle.base.proofs.Order.{first_wins, second_asked, both_passed, ends_there, was_passed}
+use Rattle.base.proofs.Cuts.{cut_turn, cut_done, cut_next, cut_over}
+use Rattle.base.proofs.Order.{first_wins, second_asked, ends_there, was_passed}
 
 module _ {A : Type 0} (fault : ℕ → A → Refusal) (i : ℕ) {xs : List A} where
   pub fault_nowhere : xs ≡ [] → none ≡ first_fault fault i xs
@@ -29,19 +28,11 @@ module _ {A : Type 0} (fault : ℕ → A → Refusal) (i : ℕ) {xs : List A} wh
       pub fault_further : r.number ≡ 0 → first_fault fault (i + 1) rest ≡ first_fault fault i xs
       fault_further z = rw (turned, ← q) (sym (second_asked r _ z))
 
-    -- where there is none, x has none, and there is none further on
-    pub no_fault_here : (first_fault fault i xs).number ≡ 0 → ((fault i x).number ≡ 0) × ((first_fault fault (i + 1) rest).number ≡ 0)
-    no_fault_here z = both_passed (fault i x) _ (rw turned at z)
-
 -- part g of xs, whose parts have the sizes ns, begins at `at`
 module _ {A : Type 0} (xs : List A) (ns : List ℕ) (g at : ℕ) where
   -- as the code takes it
   abbrev pub here : List A
   here = take (at + get_or ns g 0 - at) (drop at xs)
-
-  -- it ends within the list
-  pub fits_here : g < length ns → at + total (drop g ns) ≡ length xs → at + get_or ns g 0 ≤ length xs
-  fits_here h e = omega (arith, total_turn ns g h)
 
   module _ (fault : ℕ → List A → Refusal) where
     -- the search from part g on, which has the number g + 1, and from the next one on
@@ -60,9 +51,6 @@ module _ {A : Type 0} (xs : List A) (ns : List ℕ) (g at : ℕ) where
 
       pub part_further : (r : Refusal) → r ≡ fault (g + 1) here → r.number ≡ 0 → further ≡ faults
       part_further = fault_further fault (g + 1) (cut_turn ns xs at g h)
-
-      pub fine_here : faults.number ≡ 0 → ((fault (g + 1) here).number ≡ 0) × (further.number ≡ 0)
-      fine_here = no_fault_here fault (g + 1) (cut_turn ns xs at g h)
 
 -- the search as `?` walks it: `rest` is what is left of the readings from group g on, and `told` is what was said of group g
 module _ {A : Type 0} (fault : ℕ → List A → Refusal) (ns : List ℕ) (g : ℕ) (rest : List A) where

@@ -27,7 +27,7 @@ pub const FEWEST_GROUPS: usize = 2;
 pub const FEWEST_READINGS: usize = 2;
 
 // A refusal's number in document 01's table, and its two details; number 0 is no refusal. It is no enum: document 01 fixes numbers and details, and the edits `Refusal.new--..` and
-// `Refusal.none--..` change them. What a check hands back is a `Result`.
+// `Refusal.none--..` change them. What a check hands back is a `Result`. The numbers stand as they are in document 01's table and in the definitions: the three are read side by side.
 // The details have 64 bits: the code 4294967295 is 4294967296 levels.
 #[derive(Clone, Copy)]
 pub struct Refusal {
@@ -73,6 +73,7 @@ pub fn minus(a: u32, b: u32) -> u32
 }
 
 // The sum of the first n sizes, or of all where there are fewer. The sizes and n have 32 bits, so 64 cannot wrap.
+#[tactic(auto, unfolding(crate::specs::Lists::total))]
 pub fn total_of(sizes: &[u32], n: u32) -> u64
     ensures { result ≡ total (take n sizes.now) }
 {
@@ -85,6 +86,7 @@ pub fn total_of(sizes: &[u32], n: u32) -> u64
 }
 
 // Sizes beside n readings: more rows than `most`, which is the capacity number `which`; too many readings; sizes that do not add up.
+#[tactic(auto, unfolding(crate::specs::Sizes::sizes_refusal))]
 pub fn sizes_refusal(n: usize, sizes: &[u32], most: u32, which: u64) -> Result<(), Refusal>
     ensures { result ≡ verdict (sizes_refusal most which n sizes.now) }
 {
@@ -103,6 +105,7 @@ pub fn sizes_refusal(n: usize, sizes: &[u32], most: u32, which: u64) -> Result<(
 
 // The first fault of the groups that lie one after another in `readings`, as many in each as `sizes` says. `fault` is asked of each group with its number, counted from 1.
 // Where the readings give out, the groups from there on have fewer, or none.
+#[tactic(auto, using(std::proofs::lemmas::List::take_min, std::proofs::lemmas::List::drop_min, crate::proofs::Searches::found_here, crate::proofs::Searches::found_later, crate::proofs::Searches::none_left_over))]
 pub fn first_fault<F: Fn(u64, &[f64]) -> Result<(), Refusal>>(
     readings: &[f64],
     sizes: &[u32],

@@ -12,6 +12,7 @@ use oneway::AnovaKind;
 const OUT_BYTES: usize = 6 * 8;
 
 // Puts the floats over the front of out, eight bytes each.
+#[tactic(auto, using(base::proofs::Runs::run_step, base::proofs::Runs::run_end, base::proofs::Runs::sets_over, text::proofs::Puts::put_lays, text::proofs::Puts::put_place, crate::proofs::Writes::eight, crate::proofs::Writes::length_floats))]
 fn put_floats(out: &mut [u8], figures: &[f64])
     requires { length figures.now * 8 ≤ length out.old }
     ensures { out.new ≡ over (run float_bytes figures.now) out.old }
@@ -23,6 +24,7 @@ fn put_floats(out: &mut [u8], figures: &[f64])
 }
 
 // An output that is too short, then the set's checks, then one-way's; nothing is written before the last of them.
+#[tactic(auto, using(base::proofs::Order::was_passed, base::proofs::Order::was_refused, crate::proofs::Writes::too_short, crate::proofs::Writes::refuses, crate::proofs::Writes::writes))]
 fn bench(set: &[u8], out: &mut [u8], kind: AnovaKind) -> u32
     ensures { (out.new, result) ≡ bench_of kind set.now out.old }
 {
@@ -47,6 +49,7 @@ fn bench(set: &[u8], out: &mut [u8], kind: AnovaKind) -> u32
     }
 }
 
+// C asks for each kind by its name.
 // Fisher's analysis: F, df between, df within, SS between, within and total, in the first 48 bytes of out.
 #[unsafe(no_mangle)]
 pub extern "C" fn bench_fisher(set: &[u8], out: &mut [u8]) -> u32

@@ -1,4 +1,5 @@
 // The text of an answer: lines with a name, and numbers that each stand behind a space.
+// It is no `write!`: `text` puts the numbers, and proves their bytes. With `write!` each float would be wrapped in a type whose `Display` calls `text`.
 ghost use Rattle.std.specs.Prelude.{ℕ, ◌≡◌, ◌+◌, ◌≤◌, List, ◌∷◌, length};
 ghost use Rattle.text.specs.Numbers.{numeral_of};
 ghost use Rattle.text.specs.Put.{put_of};
@@ -42,6 +43,7 @@ impl Word for f64 {
 
 // Each number behind a space, from `at` on. The result is the place behind them: `puts` says it and the text in one equation, as `text::put` does, so `out` and the place are
 // no struct.
+#[tactic(auto, using(crate::proofs::Spaced::spaced_turn, crate::proofs::Spaced::item_put, crate::proofs::Spaced::spaced_ends))]
 fn put_words<T: Word>(out: &mut [u8], at: usize, xs: &[T]) -> usize
     requires { at + length (run (λ x. 32 ∷ T.word x) xs.now) ≤ length out.old }
     ensures { (out.new, result) ≡ puts out.old at (run (λ x. 32 ∷ T.word x) xs.now) }
@@ -72,6 +74,7 @@ fn refused(out: &mut [u8], r: Refusal) -> usize
     line(out, 0, b"refused", &[r.number as u64, r.first, r.second])
 }
 
+#[tactic(auto, using(crate::proofs::Short::until_ss, crate::proofs::Short::until_df, crate::proofs::Short::until_ms, crate::proofs::Short::two_lines, crate::proofs::Short::three_lines, crate::proofs::Short::four_lines, crate::proofs::Short::five_lines, crate::proofs::Short::puts_room, crate::proofs::Spaced::puts_more))]
 fn fisher(out: &mut [u8], a: OneWayAnovaResult) -> usize
     requires { text_room ≤ length out.old }
     ensures { (out.new, result) ≡ puts out.old 0 (fisher_text a) }
@@ -84,6 +87,7 @@ fn fisher(out: &mut [u8], a: OneWayAnovaResult) -> usize
 }
 
 // The answer to a set, as text at the front of out. The result is its length; where out has fewer than ROOM places nothing is written, and it is 0.
+#[tactic(auto, using(base::proofs::Order::was_passed, base::proofs::Order::was_refused, crate::proofs::Short::too_short, crate::proofs::Short::too_long, crate::proofs::Short::answers_refusal, crate::proofs::Short::answers_fisher, crate::proofs::Spaced::puts_length))]
 pub fn answer(set: &[u8], out: &mut [u8]) -> usize
     ensures { (out.new, result) ≡ answer_of set.now out.old }
 {

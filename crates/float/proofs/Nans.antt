@@ -1,17 +1,7 @@
--- `x != x` is the test for a NaN.
+-- There is one NaN.
 use mathlib.Core.Path.{◌≡◌, refl}
-use mathlib.Core.Bool.{true, false}
-use Prim.Native.Nat.{◌*◌}
-use borrow.Author.Tests.{eq-eqb}
-use lib.Ieee.{Float, nan, inf, fin, eq, ne, is_nan, up, down}
-
-pub ne_self : (x : Float) → ne x x ≡ is_nan x
-unfolding ne eq is_nan
-ne_self nan = refl
-ne_self (inf true) = refl
-ne_self (inf false) = refl
-ne_self (fin true m e) = rw (eq-eqb (m * up e * down e) (m * up e * down e) refl)
-ne_self (fin false m e) = rw (eq-eqb (m * up e * down e) (m * up e * down e) refl)
+use mathlib.Core.Bool.{true}
+use lib.Ieee.{Float, nan, inf, fin, is_nan}
 
 pub is_nan_lem : (x : Float) → is_nan x ≡ true → nan ≡ x
 unfolding is_nan

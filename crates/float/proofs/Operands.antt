@@ -1,7 +1,7 @@
 -- Document 01's words on `min`, `max` and `clamp`, and what `is_finite` tests.
 use mathlib.Core.Path.{◌≡◌, refl}
-use lib.Ieee.{Float, nan, inf, fin, is_nan, lt, neg, div, of_bits}
-use Rattle.float.specs.Words.{◌⊘◌, plus_zero, minus_zero, one}
+use lib.Ieee.{Float, nan, inf, fin, is_nan, lt, neg, of_bits, binary64}
+use Rattle.float.specs.Words.{plus_zero, minus_zero, one}
 use Rattle.float.specs.Singles.{abs_of, is_finite, least_of, greatest_of, clamp_of}
 
 -- One NaN gives the other operand.
@@ -43,8 +43,8 @@ unfolding clamp_of lt neg of_bits
 upper_bound_wins = refl
 
 -- the numbers are those whose absolute value is below infinity
-pub below_infinity : (x : Float) → lt (abs_of x) (one ⊘ plus_zero) ≡ is_finite x
-unfolding is_finite abs_of lt div of_bits
+pub below_infinity : (x : Float) → lt (abs_of x) (of_bits binary64 0x7FF0000000000000) ≡ is_finite x
+unfolding is_finite abs_of lt of_bits
 below_infinity nan = refl
 below_infinity (inf s) = refl
 below_infinity (fin s m e) = refl

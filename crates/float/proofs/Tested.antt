@@ -1,28 +1,23 @@
--- What the test `x != x` says of x.
-use mathlib.Core.Path.{◌≡◌, refl, sym, ap, subst, ◌∙◌}
-use mathlib.Core.Bool.{Bool, true, false, not}
-use lib.Dec.{T}
-use lib.Ieee.{Float, nan, ne, is_nan, div, binary64, of_bits, to_bits}
-use Rattle.float.specs.Words.{◌⊘◌, plus_zero}
-use Rattle.float.proofs.Nans.{ne_self, is_nan_lem}
+-- What the test for a NaN says of x.
+use mathlib.Core.Path.{◌≡◌, refl, ap, ◌∙◌}
+use mathlib.Core.Bool.{true}
+use lib.Ieee.{Float, nan, is_nan, binary64, of_bits, to_bits}
+use Rattle.float.specs.Singles.{abs_of}
+use Rattle.float.proofs.Nans.{is_nan_lem}
 
 -- The NaN that the code hands out.
-pub invalid : plus_zero ⊘ plus_zero ≡ nan
-unfolding div of_bits
-invalid = refl
+pub handed_out : of_bits binary64 0x7FF8000000000000 ≡ nan
+unfolding of_bits
+handed_out = refl
 
 module _ (x : Float) where
-  pub is_tested : ne x x ≡ true → nan ≡ x
-  is_tested h = is_nan_lem x (sym (ne_self x) ∙ h)
+  pub is_tested : is_nan x ≡ true → of_bits binary64 0x7FF8000000000000 ≡ x
+  is_tested h = handed_out ∙ is_nan_lem x h
 
-  pub not_tested : ne x x ≡ false → is_nan x ≡ false
-  not_tested h = sym (ne_self x) ∙ h
+  pub no_sign : is_nan x ≡ true → of_bits binary64 0x7FF8000000000000 ≡ abs_of x
+  unfolding abs_of
+  no_sign h = rw (← is_nan_lem x h) handed_out
 
-  -- This is what `f64::to_bits` asks.
-  pub has_bits : ne x x ≡ false → T (not (is_nan x))
-  has_bits h = subst (λ (b : Bool). T (not b)) (sym (not_tested h)) tt
-
-  -- A NaN's bits are those that `to_bits` writes.
-  pub nan_bits_are : ne x x ≡ true → 0x7FF8000000000000 ≡ to_bits binary64 x
+  pub nan_word : is_nan x ≡ true → 0x7FF8000000000000 ≡ to_bits binary64 x
   unfolding to_bits
-  nan_bits_are h = ap (to_bits binary64) (is_tested h)
+  nan_word h = ap (to_bits binary64) (is_nan_lem x h)

@@ -8,11 +8,11 @@ ghost use Rattle.std.specs.Float.Ieee.{of_bits, to_bits};
 ghost use Rattle.float.specs.Singles.{abs_of, is_finite, least_of, greatest_of, clamp_of, power_of};
 
 // x itself. A NaN leaves with the bits 7FF8000000000000, which no contract can say: the model has one NaN.
-#[tactic(auto, using(crate::proofs::Tested::invalid, crate::proofs::Tested::is_tested))]
+#[tactic(auto, using(crate::proofs::Tested::is_tested))]
 pub fn canon(x: f64) -> f64
     ensures { result ≡ x }
 {
-    if x != x { 0.0 / 0.0 } else { x }
+    if x.is_nan() { f64::NAN } else { x }
 }
 
 // Each of the first k places is left as it is. A NaN in them gets those bits too. Where there are not k places, nothing is done.
@@ -28,13 +28,14 @@ pub fn canon_places(m: &mut [f64], k: usize)
 }
 
 // `x.abs()`: the sign bit is cleared. Bits are read only where x is no NaN, so a NaN leaves as `canon` would leave it.
+#[tactic(auto, using(crate::proofs::Tested::no_sign, crate::proofs::Signs::cleared, crate::proofs::Signs::cleared_no_nan))]
 pub fn abs(x: f64) -> f64
     ensures { result ≡ abs_of x }
 {
-    if x != x {
-        return 0.0 / 0.0;
+    if x.is_nan() {
+        return f64::NAN;
     }
-    f64::from_bits(f64::to_bits(x) % 0x8000000000000000)
+    f64::from_bits(x.to_bits() % 0x8000000000000000)
 }
 
 // `x.is_finite()`: neither infinite nor a NaN.
@@ -42,26 +43,26 @@ pub fn abs(x: f64) -> f64
 pub fn is_finite(x: f64) -> bool
     ensures { result ≡ is_finite x }
 {
-    abs(x) < 1.0 / 0.0
+    abs(x) < f64::INFINITY
 }
 
 // `a.min(b)`. Only b can leave as a NaN, and only where both are one: what a comparison picked is none.
-#[tactic(auto, using(crate::proofs::Nans::ne_self), unfolding(crate::specs::Singles::least_of))]
+#[tactic(auto, unfolding(crate::specs::Singles::least_of))]
 pub fn least(a: f64, b: f64) -> f64
     ensures { result ≡ least_of a b }
 {
-    if a != a {
+    if a.is_nan() {
         return canon(b);
     }
     if b < a { b } else { a }
 }
 
 // `a.max(b)`, in the same way.
-#[tactic(auto, using(crate::proofs::Nans::ne_self), unfolding(crate::specs::Singles::greatest_of))]
+#[tactic(auto, unfolding(crate::specs::Singles::greatest_of))]
 pub fn greatest(a: f64, b: f64) -> f64
     ensures { result ≡ greatest_of a b }
 {
-    if a != a {
+    if a.is_nan() {
         return canon(b);
     }
     if a < b { b } else { a }
@@ -85,6 +86,7 @@ pub fn clamp(x: f64, low: f64, high: f64) -> f64
 }
 
 // `x.powi(p)` for a p that is not negative, by document 01's rule.
+#[tactic(auto, using(crate::proofs::Powers::odd_turn, crate::proofs::Powers::even_turn, crate::proofs::Powers::next_turn, crate::proofs::Powers::last_turn, crate::proofs::Powers::ends), unfolding(crate::specs::Singles::power_of))]
 pub fn power(x: f64, p: u32) -> f64
     ensures { result ≡ power_of x p }
 {
@@ -93,34 +95,34 @@ pub fn power(x: f64, p: u32) -> f64
     let mut left = p;
     while left != 0 {
         if left % 2 == 1 {
-            result = result * base;
+            result *= base;
         }
-        left = left / 2;
+        left /= 2;
         if left != 0 {
-            base = base * base;
+            base *= base;
         }
     }
     canon(result)
 }
 
 // The bits of x: 7FF8000000000000 of a NaN, whatever bits it has.
-#[tactic(auto, using(crate::proofs::Tested::nan_bits_are, crate::proofs::Tested::has_bits))]
+#[tactic(auto, using(crate::proofs::Tested::nan_word))]
 pub fn bits_of(x: f64) -> u64
     ensures { result ≡ to_bits binary64 x }
 {
-    if x != x {
+    if x.is_nan() {
         return 0x7FF8000000000000;
     }
-    f64::to_bits(x)
+    x.to_bits()
 }
 
 // The float of these bits. A NaN's pattern is tested first, since `from_bits` is not defined there.
-#[tactic(auto, using(crate::proofs::Patterns::pattern_invalid, crate::proofs::Patterns::pattern_number))]
+#[tactic(auto, using(crate::proofs::Patterns::pattern_handed, crate::proofs::Patterns::pattern_number))]
 pub fn float_of(n: u64) -> f64
     ensures { result ≡ of_bits binary64 n }
 {
     if n % 0x8000000000000000 > 0x7FF0000000000000 {
-        return 0.0 / 0.0;
+        return f64::NAN;
     }
     f64::from_bits(n)
 }

@@ -1,6 +1,7 @@
 // The public calls that C cannot call, each behind an exported function, so that each has a symbol. The doubles, the lists and the refusal's number of its
 // answer are used, so that the compiler keeps them; counts, flags and the refusal's details are not.
 // tools/stack builds this as a static library and reads its frames. The proof is the prover's own: no function here has a contract.
+// C asks for each kind by its name, and the stack's table measures each: so what stands once for each kind has its body each time.
 // Place `i` of an answer's lists is added to its numbers: which place is not known before, so the whole list must be there.
 #![tactic(auto)]
 
@@ -14,22 +15,19 @@ use study::GaugeStudy;
 use twoway::TwoWayAnovaResult;
 
 fn one_way(r: OneWayAnovaResult, i: usize) -> f64 {
-    let means = r.group_means;
-    let sizes = r.group_sizes;
-    let mean = means.get(i).copied().unwrap_or(0.0);
-    let size = sizes.get(i).copied().unwrap_or(0);
+    let mean = r.group_means.get(i).copied().unwrap_or(0.0);
+    let size = r.group_sizes.get(i).copied().unwrap_or(0);
     let first = r.statistic + r.df_between + r.df_within + r.ss_between + r.ss_within + r.ss_total;
     let second = r.ms_between + r.ms_within + r.grand_mean + mean + (size as f64);
     first + second + (r.refusal.number as f64)
 }
 
 fn edited(e: Edit, i: usize) -> f64 {
-    let places = e.sheet.places;
-    let rows = e.sheet.rows;
-    let place = places.get(i).copied().unwrap_or(0.0);
-    let mean = if i < 16 { rows[i].mean } else { 0.0 };
-    let sq_dev = if i < 16 { rows[i].sq_dev } else { 0.0 };
-    let size = if i < 16 { rows[i].size } else { 0 };
+    let place = e.sheet.places.get(i).copied().unwrap_or(0.0);
+    let (mean, sq_dev, size) = match e.sheet.rows.get(i) {
+        Some(row) => (row.mean, row.sq_dev, row.size),
+        None => (0.0, 0.0, 0),
+    };
     place + mean + sq_dev + (size as f64) + (e.refusal.number as f64)
 }
 
@@ -38,12 +36,9 @@ fn row(r: AnovaTableRow) -> f64 {
 }
 
 fn two_way(r: TwoWayAnovaResult, i: usize) -> f64 {
-    let cells = r.cell_means;
-    let means_a = r.marginal_means_a;
-    let means_b = r.marginal_means_b;
-    let cell = cells.get(i).copied().unwrap_or(0.0);
-    let a = means_a.get(i).copied().unwrap_or(0.0);
-    let b = means_b.get(i).copied().unwrap_or(0.0);
+    let cell = r.cell_means.get(i).copied().unwrap_or(0.0);
+    let a = r.marginal_means_a.get(i).copied().unwrap_or(0.0);
+    let b = r.marginal_means_b.get(i).copied().unwrap_or(0.0);
     let rows = row(r.factor_a)
         + row(r.factor_b)
         + row(r.interaction)
@@ -62,10 +57,8 @@ fn corrected(r: CorrectedResult) -> f64 {
 }
 
 fn measures(r: RmAnovaResult, i: usize) -> f64 {
-    let conditions = r.condition_means;
-    let subjects = r.subject_means;
-    let condition = conditions.get(i).copied().unwrap_or(0.0);
-    let subject = subjects.get(i).copied().unwrap_or(0.0);
+    let condition = r.condition_means.get(i).copied().unwrap_or(0.0);
+    let subject = r.subject_means.get(i).copied().unwrap_or(0.0);
     let rows = row(r.within_subjects) + row(r.subjects) + row(r.error) + row(r.total);
     let sphericity = r.sphericity.w
         + r.sphericity.df
@@ -106,13 +99,12 @@ pub extern "C" fn call_one_way_anova_levene(readings: &[f64], sizes: &[u32], i: 
     one_way(oneway::one_way_anova(readings, sizes, AnovaKind::Levene), i)
 }
 
-// `report` with the rows that the groups have. Each kind has its body, since the stack's table measures each.
+// `report` with the rows that the groups have.
 #[unsafe(no_mangle)]
 pub extern "C" fn call_report_fisher(readings: &[f64], sizes: &[u32], i: usize) -> f64 {
     let stats = oneway_rows::validate_anova_groups(readings, sizes);
-    let rows = stats.rows;
     one_way(
-        oneway::report(rows, sizes.len(), readings, AnovaKind::Fisher),
+        oneway::report(stats.rows, sizes.len(), readings, AnovaKind::Fisher),
         i,
     )
 }
@@ -120,9 +112,8 @@ pub extern "C" fn call_report_fisher(readings: &[f64], sizes: &[u32], i: usize) 
 #[unsafe(no_mangle)]
 pub extern "C" fn call_report_welch(readings: &[f64], sizes: &[u32], i: usize) -> f64 {
     let stats = oneway_rows::validate_anova_groups(readings, sizes);
-    let rows = stats.rows;
     one_way(
-        oneway::report(rows, sizes.len(), readings, AnovaKind::Welch),
+        oneway::report(stats.rows, sizes.len(), readings, AnovaKind::Welch),
         i,
     )
 }
@@ -130,9 +121,8 @@ pub extern "C" fn call_report_welch(readings: &[f64], sizes: &[u32], i: usize) -
 #[unsafe(no_mangle)]
 pub extern "C" fn call_report_levene(readings: &[f64], sizes: &[u32], i: usize) -> f64 {
     let stats = oneway_rows::validate_anova_groups(readings, sizes);
-    let rows = stats.rows;
     one_way(
-        oneway::report(rows, sizes.len(), readings, AnovaKind::Levene),
+        oneway::report(stats.rows, sizes.len(), readings, AnovaKind::Levene),
         i,
     )
 }
@@ -293,8 +283,7 @@ pub extern "C" fn call_compute_eigenvalues(m: &mut [f64], n: usize, values: &mut
 
 #[unsafe(no_mangle)]
 pub extern "C" fn call_group(readings: &[f64], sizes: &[u32], g: usize) -> usize {
-    let view = oneway_checks::group(readings, sizes, g);
-    view.len()
+    oneway_checks::group(readings, sizes, g).len()
 }
 
 // The number of a refusal; 0 where there is none.
@@ -328,6 +317,11 @@ pub extern "C" fn call_repeated_refusal(readings: &[f64], sizes: &[u32]) -> u32 
 }
 
 #[unsafe(no_mangle)]
+pub extern "C" fn call_cell_number(a: u32, b: u32, levels_b: u32) -> usize {
+    twoway_checks::cell_number(a, b, levels_b)
+}
+
+#[unsafe(no_mangle)]
 pub extern "C" fn call_check_two_way_data(
     values: &[f64],
     a: &[u32],
@@ -340,10 +334,7 @@ pub extern "C" fn call_check_two_way_data(
 #[unsafe(no_mangle)]
 pub extern "C" fn call_read_set(set: &[u8], i: usize) -> f64 {
     match set::read_set(set) {
-        Ok(r) => {
-            let readings = r.readings;
-            readings.get(i).copied().unwrap_or(0.0) + 0.0
-        }
+        Ok(r) => r.readings.get(i).copied().unwrap_or(0.0) + 0.0,
         Err(refusal) => refusal.number as f64,
     }
 }

@@ -6,11 +6,9 @@ use Prim.Native.Nat.{ℕ, ◌<◌, ◌≤◌, min}
 use native.Mathlib.Omega.{arith}
 use borrow.Author.Tests.{leb-true, leb-false}
 use lib.Dec.{leb}
-use lib.ListN.{length, drop, length-append, length-drop, drop_of_length-le}
-use lib.Seq.{drop_at}
+use lib.ListN.{length, drop, drop_of_length-le}
 use lib.Ieee.{Float}
 use Rattle.base.specs.Limits.{scratch_places}
-use Rattle.float.specs.Words.{plus_zero}
 use Rattle.lent.specs.Wiping.{zeros, wiped}
 
 -- the first places, as many as there are up to 6,400, hold +0.0
@@ -35,10 +33,3 @@ unfolding wiped
 wiped_short d h =
     let m : min scratch_places (length d) ≡ length d = omega arith in
     rw (m, drop_of_length-le d h) (append-nil (zeros (length d)))
-
--- x in the first 6,400 places leaves no trace
-pub wiped_again : (x d : List Float) → length x ≡ scratch_places → scratch_places ≤ length d → wiped (x ++ drop scratch_places d) ≡ wiped d
-unfolding wiped
-wiped_again x d e h =
-    let l : length (x ++ drop scratch_places d) ≡ length d = simp (length-append, length-drop, e) (omega arith) in
-    rw (l, drop_at x (drop scratch_places d) scratch_places e)

@@ -1,5 +1,5 @@
 // The rounds of the QR iteration.
-// Loops go by number where the places that are read lie apart.
+// Loops go by number, as the loops of the definitions do: the two are read side by side, and a turn of one is a turn of the other.
 ghost use Rattle.std.specs.Prelude.{◌≡◌, ◌*◌, ◌≤◌, ◌<◌, length};
 ghost use Rattle.matrix_places.specs.Places.{most_contrasts};
 ghost use Rattle.matrix_eigen.specs.Values.{round, rounds, diagonal};
@@ -9,6 +9,7 @@ use super::qr::qr_columns;
 const ROUNDS: usize = 100;
 
 // The matrix becomes R Q.
+#[tactic(auto, using(crate::proofs::Squares::square_fits, crate::proofs::Steps::round_done, matrix_product::proofs::Fits::product_room, base::proofs::Bounds::product_le), unfolding(crate::specs::Values::zeros))]
 pub fn round(m: &mut [f64], n: usize)
     requires { (0 < n) × ((n ≤ most_contrasts) × (n * n ≤ length m.old)) }
     ensures { m.new ≡ round n m.old }
@@ -25,7 +26,7 @@ pub fn rounds(m: &mut [f64], n: usize)
     requires { (0 < n) × ((n ≤ most_contrasts) × (n * n ≤ length m.old)) }
     ensures { m.new ≡ rounds n m.old }
 {
-    for i in 0..ROUNDS {
+    for _round in 0..ROUNDS {
         round(m, n);
     }
 }

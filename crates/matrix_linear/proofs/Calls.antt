@@ -6,8 +6,8 @@ use mathlib.Core.List.{List}
 use borrow.Author.Tests.{le-leb, lt-leb}
 use lib.Ieee.{Float}
 use lib.ListN.{length, set}
-use Rattle.float.specs.Words.{◌⊘◌, plus_zero, one}
-use Rattle.float.proofs.Tested.{invalid}
+use Rattle.float.specs.Words.{bits, one}
+use Rattle.float.proofs.Tested.{handed_out}
 use Rattle.matrix_linear.specs.Rows.{most_rows, room}
 use Rattle.matrix_linear.specs.Skips.{taken_with, not_taken}
 use Rattle.matrix_linear.specs.Inner.{all_counted}
@@ -54,13 +54,13 @@ module _ (n : ℕ) (m : List Float) where
   unfolding matrix_inverse full_columns
   inverse_taken h l p q r = accepted n (2 * n) m _ _ h l (rw (r, ← p) (ap (λ (s : List Float × ℕ). (s.0, taken_with s.1)) q))
 
-  pub determinant_many : most_rows < n → (m, plus_zero ⊘ plus_zero) ≡ matrix_determinant n m
+  pub determinant_many : most_rows < n → (m, bits 0x7FF8000000000000) ≡ matrix_determinant n m
   unfolding matrix_determinant
-  determinant_many h = refused_many n n m _ _ h (ap (λ (x : Float). (m, x)) invalid)
+  determinant_many h = refused_many n n m _ _ h (ap (λ (x : Float). (m, x)) handed_out)
 
-  pub determinant_short : n ≤ most_rows → length m < n * n → (m, plus_zero ⊘ plus_zero) ≡ matrix_determinant n m
+  pub determinant_short : n ≤ most_rows → length m < n * n → (m, bits 0x7FF8000000000000) ≡ matrix_determinant n m
   unfolding matrix_determinant
-  determinant_short h k = refused_short n n m _ _ h k (ap (λ (x : Float). (m, x)) invalid)
+  determinant_short h k = refused_short n n m _ _ h k (ap (λ (x : Float). (m, x)) handed_out)
 
   pub determinant_taken : {x y : List Float} {d r : Float} → n ≤ most_rows → n * n ≤ length m → (x, d) ≡ det_of n m → y ≡ x → r ≡ d → (y, r) ≡ matrix_determinant n m
   unfolding matrix_determinant

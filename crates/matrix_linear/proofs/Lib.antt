@@ -9,3 +9,4 @@ pub mod Counting
 pub mod Untouched
 pub mod Zeros
 pub mod Finished
+pub mod Filled

@@ -1,5 +1,5 @@
 // The determinant.
-// Loops go by number where the places that are read lie apart.
+// Loops go by number, as the loops of the definitions do: the two are read side by side, and a turn of one is a turn of the other.
 ghost use Rattle.std.specs.Prelude.{◌≡◌, ◌*◌, ◌≤◌, ◌<◌, length};
 ghost use Rattle.matrix_linear.specs.Determinant.{turned, det_column, det_columns, diagonal_product, det_end, two_by_two, det_of};
 
@@ -12,10 +12,7 @@ use super::rows::swap_rows;
 pub fn turned(a: usize, b: usize, s: f64) -> f64
     ensures { result ≡ turned a b s }
 {
-    if a == b {
-        return s;
-    }
-    -s
+    if a == b { s } else { -s }
 }
 
 // The sign +0.0 says that there is no pivot, as in the definition `det_column`.
@@ -71,9 +68,10 @@ pub fn det_long(m: &mut [f64], n: usize) -> f64
 {
     let s = det_columns(m, n);
     if s == 0.0 {
-        return 0.0;
+        0.0
+    } else {
+        diagonal_product(m, n, s)
     }
-    diagonal_product(m, n, s)
 }
 
 // The determinant of two rows.
@@ -91,14 +89,10 @@ pub fn det_of(m: &mut [f64], n: usize) -> f64
     requires { n * n ≤ length m.old }
     ensures { (m.new, result) ≡ det_of n m.old }
 {
-    if n == 0 {
-        return 1.0;
+    match n {
+        0 => 1.0,
+        1 => m[0],
+        2 => two_by_two(m),
+        _ => det_long(m, n),
     }
-    if n == 1 {
-        return m[0];
-    }
-    if n == 2 {
-        return two_by_two(m);
-    }
-    det_long(m, n)
 }

@@ -1,5 +1,5 @@
 // Gauss and Jordan on the rows of a matrix and, beside it, the unit matrix.
-// Loops go by number where a place of lent memory is set: of what an iterator over `&mut` wrote a proof knows the length alone.
+// Loops go by number, as the loops of the definitions do: the two are read side by side, and a turn of one is a turn of the other.
 ghost use Rattle.std.specs.Prelude.{◌≡◌, ◌+◌, ◌*◌, ◌≤◌, ◌<◌, length};
 ghost use Rattle.matrix_linear.specs.Inverse.{zero_right, unit_row, unit, clear_other, clear_others};
 
@@ -9,9 +9,7 @@ pub fn zero_right(m: &mut [f64], n: usize, i: usize)
     ensures { m.new ≡ zero_right n i m.old }
 {
     let p = i * (2 * n) + n;
-    for j in 0..n {
-        m[p + j] = 0.0;
-    }
+    m[p..p + n].fill(0.0);
 }
 
 // The right half of row i becomes that of the unit matrix.
@@ -50,6 +48,7 @@ pub fn clear_other(m: &mut [f64], w: usize, col: usize, r: usize)
 
 // All rows but col are cleared in the column. The rows before it and those behind it have a loop each: then no loop writes to row col, which it reads,
 // and the compiler can take several places at a time.
+#[tactic(auto, using(crate::proofs::Columns::own_row, base::proofs::Bounds::row_end, base::proofs::Loops::step, base::proofs::Loops::ends), unfolding(crate::specs::Inverse::clear_others))]
 pub fn clear_others(m: &mut [f64], n: usize, w: usize, col: usize)
     requires { (col < n) × ((n ≤ w) × (n * w ≤ length m.old)) }
     ensures { m.new ≡ clear_others n w col m.old }

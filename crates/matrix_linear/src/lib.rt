@@ -1,5 +1,6 @@
 // Dense linear algebra on flat slices: the rows of a matrix lie one after another in lent memory.
-// The lent rows and their sizes stay parameters: a struct of them would have each clause say, beside what the rows become, that the sizes stay.
+// Rows that are written stay a slice with their sizes beside it: a struct would have each clause say, beside what the rows become, that the sizes stay.
+// Rows that are only read are slices and numbers in the clauses of the public functions, and the private ones hand them on.
 #![tactic(auto)]
 
 mod clearing;
@@ -42,15 +43,14 @@ fn not_taken() -> Elimination
     }
 }
 
+// Not one function with the inversion: the width differs, and what is done before the columns and behind them. The columns themselves are one function.
 // Solves the system of n rows of n + 1 places, right sides last: the solution takes their places.
 // Too many rows, or no room for them: not taken, and nothing is changed.
+#[tactic(auto, using(crate::proofs::Calls::solve_many, crate::proofs::Calls::solve_short, crate::proofs::Calls::solve_taken, base::proofs::Bounds::product_le), unfolding(crate::specs::System::column, crate::specs::System::cleared))]
 pub fn solve_linear_system(m: &mut [f64], n: usize) -> Elimination
     ensures { (m.new, result) ≡ solve_linear_system n m.old }
 {
-    if MOST_ROWS < n {
-        return not_taken();
-    }
-    if m.len() < n * (n + 1) {
+    if MOST_ROWS < n || m.len() < n * (n + 1) {
         return not_taken();
     }
     let skipped = columns::<Below>(m, n, n + 1);
@@ -58,19 +58,17 @@ pub fn solve_linear_system(m: &mut [f64], n: usize) -> Elimination
     float::canon_places(m, n * (n + 1));
     Elimination {
         taken: true,
-        skipped: skipped,
+        skipped,
     }
 }
 
 // Inverts the matrix in the left half of n rows of 2 n places: the inverse comes to the right half.
 // Too many rows, or no room for them: not taken, and nothing is changed.
+#[tactic(auto, using(crate::proofs::Calls::inverse_many, crate::proofs::Calls::inverse_short, crate::proofs::Calls::inverse_taken, base::proofs::Bounds::product_le), unfolding(crate::specs::Inverse::full_column, crate::specs::Inverse::reduced))]
 pub fn matrix_inverse(m: &mut [f64], n: usize) -> Elimination
     ensures { (m.new, result) ≡ matrix_inverse n m.old }
 {
-    if MOST_ROWS < n {
-        return not_taken();
-    }
-    if m.len() < n * (2 * n) {
+    if MOST_ROWS < n || m.len() < n * (2 * n) {
         return not_taken();
     }
     unit(m, n);
@@ -78,20 +76,18 @@ pub fn matrix_inverse(m: &mut [f64], n: usize) -> Elimination
     float::canon_places(m, n * (2 * n));
     Elimination {
         taken: true,
-        skipped: skipped,
+        skipped,
     }
 }
 
 // The determinant of n rows of n places, which are used up.
 // Too many rows, or no room for them: a NaN, and nothing is changed.
+#[tactic(auto, using(crate::proofs::Calls::determinant_many, crate::proofs::Calls::determinant_short, crate::proofs::Calls::determinant_taken, base::proofs::Bounds::product_le))]
 pub fn matrix_determinant(m: &mut [f64], n: usize) -> f64
     ensures { (m.new, result) ≡ matrix_determinant n m.old }
 {
-    if MOST_ROWS < n {
-        return 0.0 / 0.0;
-    }
-    if m.len() < n * n {
-        return 0.0 / 0.0;
+    if MOST_ROWS < n || m.len() < n * n {
+        return f64::NAN;
     }
     let d = det_of(m, n);
     float::canon_places(m, n * n);

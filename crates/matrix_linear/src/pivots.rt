@@ -1,5 +1,5 @@
 // Pivots, and the rows below one.
-// Loops go by number where the places that are read lie apart.
+// Loops go by number, as the loops of the definitions do: the two are read side by side, and a turn of one is a turn of the other.
 ghost use Rattle.std.specs.Prelude.{◌≡◌, ◌+◌, ◌*◌, ◌≤◌, ◌<◌, length};
 ghost use Rattle.matrix_linear.specs.Rows.{better, pivot_row, pivoted, clear_row, clear_below};
 
@@ -13,9 +13,10 @@ pub fn better(m: &[f64], w: usize, col: usize, r: usize, best: usize) -> usize
     ensures { result ≡ better m.now w col r best }
 {
     if abs_at(m, best * w + col) < abs_at(m, r * w + col) {
-        return r;
+        r
+    } else {
+        best
     }
-    best
 }
 
 // The row, from col on, whose absolute value in the column is largest: the first of such.

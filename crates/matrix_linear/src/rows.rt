@@ -1,5 +1,5 @@
 // Rows that change places. They lie w places apart; where one begins is worked out before the loop.
-// Loops go by number where a place of lent memory is set: of what an iterator over `&mut` wrote a proof knows the length alone.
+// Loops go by number, as the loops of the definitions do: the two are read side by side, and a turn of one is a turn of the other.
 ghost use Rattle.std.specs.Prelude.{◌≡◌, ◌+◌, ◌*◌, ◌≤◌, length};
 ghost use Rattle.matrix_linear.specs.Rows.{swap_rows};
 

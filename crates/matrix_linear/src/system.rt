@@ -1,7 +1,7 @@
 // Back substitution of a linear system.
-// Loops go by number where the places that are read lie apart.
+// Loops go by number, as the loops of the definitions do: the two are read side by side, and a turn of one is a turn of the other.
 ghost use Rattle.std.specs.Prelude.{◌≡◌, ◌+◌, ◌*◌, ◌≤◌, ◌<◌, length};
-ghost use Rattle.matrix_linear.specs.System.{back_sum, back_value, back_row, backward};
+ghost use Rattle.matrix_linear.specs.System.{back_sum, back_value, backward};
 
 use super::place::skips;
 
@@ -28,28 +28,19 @@ pub fn back_value(m: &[f64], n: usize, i: usize) -> f64
 {
     let p = i * (n + 1) + i;
     if skips(m, p) {
-        return 0.0;
+        0.0
+    } else {
+        back_sum(m, n, i) / m[p]
     }
-    back_sum(m, n, i) / m[p]
-}
-
-// x[n - 1 - k] takes the place of its right side.
-#[tactic(auto, unfolding(crate::specs::System::back_row))]
-pub fn back_row(m: &mut [f64], n: usize, k: usize)
-    requires { (k < n) × (n * (n + 1) ≤ length m.old) }
-    ensures { m.new ≡ back_row n k m.old }
-{
-    let i = n - 1 - k;
-    m[i * (n + 1) + n] = back_value(m, n, i);
 }
 
 // Back substitution, from the last row up.
-#[tactic(auto, using(base::proofs::Loops::step, base::proofs::Loops::ends), unfolding(crate::specs::System::backward))]
+#[tactic(auto, using(base::proofs::Loops::step_back, base::proofs::Loops::ends, base::proofs::Bounds::row_end), unfolding(crate::specs::System::backward, crate::specs::System::back_row))]
 pub fn backward(m: &mut [f64], n: usize)
     requires { n * (n + 1) ≤ length m.old }
     ensures { m.new ≡ backward n m.old }
 {
-    for k in 0..n {
-        back_row(m, n, k);
+    for i in (0..n).rev() {
+        m[i * (n + 1) + n] = back_value(m, n, i);
     }
 }

@@ -1,5 +1,7 @@
 // Rows made orthonormal. The rows of a matrix lie one after another in lent memory.
-// The lent rows and their sizes stay parameters: a struct of them would have each clause say, beside what the rows become, that the sizes stay.
+// Rows that are written stay a slice with their sizes beside it: a struct would have each clause say, beside what the rows become, that the sizes stay.
+// Rows that are only read are slices and numbers in the clauses of the public functions, and the private ones hand them on.
+// Whether the sizes are taken is a `bool`: there is one way not to be, and the definitions say it so.
 #![tactic(auto)]
 
 mod rows;

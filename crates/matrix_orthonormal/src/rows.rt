@@ -1,5 +1,5 @@
 // Gram and Schmidt on rows, in place.
-// Loops go by number where the places that are read lie apart.
+// Loops go by number, as the loops of the definitions do: the two are read side by side, and a turn of one is a turn of the other.
 ghost use Rattle.std.specs.Prelude.{◌≡◌, ◌+◌, ◌*◌, ◌≤◌, length};
 ghost use Rattle.base.specs.Limits.{most_conditions};
 ghost use Rattle.matrix_orthonormal.specs.Orthonormal.{row_dot, project_row, project_rows, normalize_row, orthonormal_row, orthonormal_rows};
@@ -43,7 +43,6 @@ pub fn normalize_row(c: &mut [f64], k: usize, i: usize)
     let norm = root::sqrt(row_dot(c, k, i, i));
     if norm > matrix_places::TINIER {
         matrix_places::over_row(c, i * k, norm, k);
-        return;
     }
 }
 

@@ -1,11 +1,11 @@
 -- When the places of a sum are all there, and that the sum is then the plain one.
 use Prim.Native.Nat.{ℕ, ◌+◌, ◌*◌, ◌<◌, ◌≤◌}
-use mathlib.Core.Path.{◌≡◌}
+use mathlib.Core.Path.{◌≡◌, sym, ◌∙◌}
 use mathlib.Core.Bool.{Bool, true, false}
 use mathlib.Core.List.{List}
 use native.Mathlib.Omega.{arith}
-use borrow.Author.Tests.{lt-ltb, le-ltb, lt-leb, ltb-false, leb-false}
-use lib.Dec.{leb, ltb}
+use borrow.Author.Tests.{le-ltb, lt-leb, ltb-false, leb-false}
+use lib.Dec.{ltb}
 use lib.ListN.{length}
 use lib.Ieee.{Float}
 use Rattle.base.proofs.Bounds.{row_end}
@@ -18,24 +18,6 @@ abbrev pub Room : ℕ → ℕ → ℕ → ℕ → Type 0
 Room p s n len = (n ≤ most_conditions) × ((s ≤ most_conditions) × ((p ≤ len) × (p + n * s < len + s)))
 
 module _ (p s n len : ℕ) where
-  pub many_asked : most_conditions < n → true ≡ lacks p s n len
-  unfolding lacks
-  many_asked h = rw (lt-ltb most_conditions n h)
-
-  module _ (a : n ≤ most_conditions) where
-    pub far_apart : most_conditions < s → true ≡ lacks p s n len
-    unfolding lacks
-    far_apart h = rw (le-ltb most_conditions n a, lt-ltb most_conditions s h)
-
-    module _ (b : s ≤ most_conditions) where
-      pub begun_behind : len < p → true ≡ lacks p s n len
-      unfolding lacks
-      begun_behind h = rw (le-ltb most_conditions n a, le-ltb most_conditions s b, lt-ltb len p h)
-
-      pub end_asked : p ≤ len → leb (len + s) (p + n * s) ≡ lacks p s n len
-      unfolding lacks
-      end_asked h = rw (le-ltb most_conditions n a, le-ltb most_conditions s b, le-ltb len p h)
-
   pub not_lacking : Room p s n len → lacks p s n len ≡ false
   unfolding lacks
   not_lacking r = rw (le-ltb most_conditions n r.0, le-ltb most_conditions s r.1.0, le-ltb len p r.1.1.0, lt-leb (len + s) (p + n * s) r.1.1.1)
@@ -51,6 +33,10 @@ module _ (p s n len : ℕ) where
 -- each of those places lies within the memory
 pub place_within : (p s n len m : ℕ) → Room p s n len → m < n → p + m * s < len
 place_within p s n len m r h = let a = row_end m n s {len = n * s} h (omega arith) in omega (arith, a, r.1.1.1)
+
+-- the same, where a test found none lacking
+pub not_lacked : (p s n len m : ℕ) {b : Bool} → b ≡ lacks p s n len → b ≡ false → m < n → p + m * s < len
+not_lacked p s n len m e h l = place_within p s n len m (roomy p s n len (sym e ∙ h)) l
 
 module _ (z : Float) (x : List Float) (p s : ℕ) (y : List Float) (q t n : ℕ) where
   -- b and d are what the tests of x and of y said

@@ -1,11 +1,9 @@
 -- When a row is there, that the steps on rows are then the plain ones, and that they keep the memory's length.
-use Prim.Native.Nat.{ℕ, ◌+◌, ◌-◌, ◌<◌, ◌≤◌}
-use mathlib.Core.Path.{◌≡◌, refl, sym, ap}
+use Prim.Native.Nat.{ℕ, ◌+◌, ◌<◌, ◌≤◌}
+use mathlib.Core.Path.{◌≡◌, ap}
 use mathlib.Core.Bool.{Bool, true, false}
 use mathlib.Core.List.{List}
-use native.Mathlib.Omega.{arith}
-use borrow.Author.Tests.{lt-ltb, le-ltb, ltb-true, ltb-false}
-use lib.Dec.{ltb}
+use borrow.Author.Tests.{le-ltb, ltb-false}
 use lib.ListN.{length, set, length-set}
 use lib.Ieee.{Float}
 use Rattle.base.specs.Loop.{loop}
@@ -14,18 +12,6 @@ use Rattle.float.specs.Words.{◌⊖◌, ◌⊗◌, ◌⊘◌}
 use Rattle.matrix_places.specs.Places.{at, less_at, less_row, over_at, over_row, short, less_row_in, over_row_in}
 
 module _ (p w len : ℕ) where
-  pub wider : len < w → true ≡ short p w len
-  unfolding short
-  wider h = sym (lt-ltb len (p + w) (omega (arith, h)))
-
-  pub start_asked : w ≤ len → ltb (len - w) p ≡ short p w len
-  unfolding short
-  start_asked h = go (ltb (len - w) p) refl
-    where
-      go : (b : Bool) → ltb (len - w) p ≡ b → b ≡ ltb len (p + w)
-      go true e = sym (lt-ltb len (p + w) (omega (arith, h, ltb-true (len - w) p e)))
-      go false e = sym (le-ltb len (p + w) (omega (arith, h, ltb-false (len - w) p e)))
-
   pub ends_within : short p w len ≡ false → p + w ≤ len
   unfolding short
   ends_within e = ltb-false len (p + w) e

@@ -1,42 +1,17 @@
--- What a size that is not refused leaves known, and the ways to refuse one.
+-- What a size that is not refused leaves known.
 use Prim.Native.Nat.{ℕ, ◌*◌, ◌<◌, ◌≤◌}
 use mathlib.Core.Path.{◌≡◌, sym, ◌∙◌}
-use mathlib.Core.Bool.{true, false}
+use mathlib.Core.Bool.{false}
 use native.Mathlib.Omega.{arith}
-use borrow.Author.Tests.{eq-eqb, ne_eqb, lt-ltb, le-ltb, eqb-false, ltb-false}
+use borrow.Author.Tests.{ne_eqb, le-ltb, eqb-false, ltb-false}
 use lib.Dec.{eqb, ltb}
 use Rattle.base.proofs.Faults.{neither}
 use Rattle.matrix_places.specs.Places.{refuses}
 use Rattle.base.specs.Limits.{most_conditions}
 
-module _ (most p k len : ℕ) where
-  pub no_row : p ≡ 0 → true ≡ refuses most p k len
-  unfolding refuses
-  no_row h = rw (eq-eqb p 0 h)
-
-  module _ (a : p ≡ 0 → ⊥) where
-    pub many_rows : most < p → true ≡ refuses most p k len
-    unfolding refuses
-    many_rows h = rw (ne_eqb p 0 a, lt-ltb most p h)
-
-    module _ (b : p ≤ most) where
-      pub too_many_rows : most_conditions < p → true ≡ refuses most p k len
-      unfolding refuses
-      too_many_rows h = rw (ne_eqb p 0 a, le-ltb most p b, lt-ltb most_conditions p h)
-
-      module _ (f : p ≤ most_conditions) where
-        pub no_place_lem : k ≡ 0 → true ≡ refuses most p k len
-        unfolding refuses
-        no_place_lem h = rw (ne_eqb p 0 a, le-ltb most p b, le-ltb most_conditions p f, eq-eqb k 0 h)
-
-        module _ (d : k ≡ 0 → ⊥) where
-          pub many_places : most_conditions < k → true ≡ refuses most p k len
-          unfolding refuses
-          many_places h = rw (ne_eqb p 0 a, le-ltb most p b, le-ltb most_conditions p f, ne_eqb k 0 d, lt-ltb most_conditions k h)
-
-          pub room_asked : k ≤ most_conditions → ltb len (p * k) ≡ refuses most p k len
-          unfolding refuses
-          room_asked h = rw (ne_eqb p 0 a, le-ltb most p b, le-ltb most_conditions p f, ne_eqb k 0 d, le-ltb most_conditions k h)
+room_asked : (most p k len : ℕ) → (p ≡ 0 → ⊥) → p ≤ most → p ≤ most_conditions → (k ≡ 0 → ⊥) → k ≤ most_conditions → ltb len (p * k) ≡ refuses most p k len
+unfolding refuses
+room_asked most p k len a b f d h = rw (ne_eqb p 0 a, le-ltb most p b, le-ltb most_conditions p f, ne_eqb k 0 d, le-ltb most_conditions k h)
 
 -- what is known where the rows are taken
 pub record Sized (most p k len : ℕ) : Type 0 where

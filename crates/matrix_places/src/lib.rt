@@ -1,6 +1,7 @@
 // Places of flat matrices: whether there is room for them, the sums of products and the steps on rows that the matrix crates are made of.
-// The lent rows and their sizes stay parameters: a struct of them would have each clause say, beside what the rows become, that the sizes stay.
-// Loops go by number where the places that are read lie apart.
+// Rows that are written stay a slice with their sizes beside it: a struct would have each clause say, beside what the rows become, that the sizes stay.
+// Rows that are only read are slices and numbers in the clauses of the public functions, and the private ones hand them on.
+// Loops go by number, as the loops of the definitions do: the two are read side by side, and a turn of one is a turn of the other.
 #![tactic(auto)]
 
 ghost use Rattle.std.specs.Prelude.{◌≡◌, length};
@@ -23,49 +24,32 @@ pub const TINIER: f64 = 1e-15;
 pub fn refuses(most: usize, p: usize, k: usize, len: usize) -> bool
     ensures { result ≡ refuses most p k len }
 {
-    if p == 0 {
-        return true;
-    }
-    if most < p {
-        return true;
-    }
-    if base::MOST_CONDITIONS < p {
-        return true;
-    }
-    if k == 0 {
-        return true;
-    }
-    if base::MOST_CONDITIONS < k {
-        return true;
-    }
-    len < p * k
+    p == 0
+        || most < p
+        || base::MOST_CONDITIONS < p
+        || k == 0
+        || base::MOST_CONDITIONS < k
+        || len < p * k
 }
 
 // Does x lack one of n places, from p on and s apart? More places than there may be conditions, and places further apart, count as lacking.
+#[tactic(auto, using(std::proofs::lemmas::Bool::Decides::nat_tests, base::proofs::Bounds::product_le), unfolding(crate::specs::Places::lacks))]
 fn lacks(x: &[f64], p: usize, s: usize, n: usize) -> bool
     ensures { result ≡ lacks p s n (length x.now) }
 {
-    if base::MOST_CONDITIONS < n {
-        return true;
-    }
-    if base::MOST_CONDITIONS < s {
-        return true;
-    }
-    if x.len() < p {
-        return true;
-    }
-    x.len() + s <= p + n * s
+    base::MOST_CONDITIONS < n
+        || base::MOST_CONDITIONS < s
+        || x.len() < p
+        || x.len() + s <= p + n * s
 }
 
 // The sum from z of n products: places of x, from p on and s apart, times places of y, from q on and t apart.
 // Where one of the places is lacking: z.
+#[tactic(auto, using(base::proofs::Loops::step, base::proofs::Loops::ends, crate::proofs::Room::first_lacking, crate::proofs::Room::second_lacking, crate::proofs::Room::none_lacking, crate::proofs::Room::not_lacked), unfolding(crate::specs::Places::dot))]
 pub fn dot(x: &[f64], p: usize, s: usize, y: &[f64], q: usize, t: usize, n: usize, z: f64) -> f64
     ensures { result ≡ dot_in z x.now p s y.now q t n }
 {
-    if lacks(x, p, s, n) {
-        return float::canon(z);
-    }
-    if lacks(y, q, t, n) {
+    if lacks(x, p, s, n) || lacks(y, q, t, n) {
         return float::canon(z);
     }
     let mut sum = z;
@@ -76,25 +60,20 @@ pub fn dot(x: &[f64], p: usize, s: usize, y: &[f64], q: usize, t: usize, n: usiz
 }
 
 // Is m too short for the row of w places that begins at p?
-#[tactic(auto, using(crate::proofs::Rows::wider, crate::proofs::Rows::start_asked))]
+#[tactic(auto, using(std::proofs::lemmas::Bool::Decides::nat_tests), unfolding(crate::specs::Places::short))]
 fn short(m: &[f64], p: usize, w: usize) -> bool
     ensures { result ≡ short p w (length m.now) }
 {
-    if m.len() < w {
-        return true;
-    }
-    m.len() - w < p
+    m.len() < w || m.len() - w < p
 }
 
 // From the row that begins at q, in the columns from i on, f times the row that begins at p is taken away. Both have w places.
 // Where one of them does not end within m, nothing is changed.
+#[tactic(auto, using(base::proofs::Loops::ends, crate::proofs::Rows::ends_within, crate::proofs::Rows::less_first, crate::proofs::Rows::less_second, crate::proofs::Rows::less_done), unfolding(crate::specs::Places::less_row))]
 pub fn less_row(m: &mut [f64], p: usize, q: usize, f: f64, i: usize, w: usize)
     ensures { m.new ≡ less_row_in p q f i w m.old }
 {
-    if short(m, p, w) {
-        return;
-    }
-    if short(m, q, w) {
+    if short(m, p, w) || short(m, q, w) {
         return;
     }
     for j in i..w {
@@ -104,6 +83,7 @@ pub fn less_row(m: &mut [f64], p: usize, q: usize, f: f64, i: usize, w: usize)
 
 // The row of w places that begins at p is divided by d.
 // Where it does not end within m, nothing is changed.
+#[tactic(auto, using(base::proofs::Loops::ends, crate::proofs::Rows::ends_within, crate::proofs::Rows::over_refused, crate::proofs::Rows::over_done), unfolding(crate::specs::Places::over_row))]
 pub fn over_row(m: &mut [f64], p: usize, d: f64, w: usize)
     ensures { m.new ≡ over_row_in p d w m.old }
 {

@@ -1,11 +1,11 @@
 -- When the matrices of a product fit, and that the call then gives the plain product.
 use Prim.Native.Nat.{ℕ, ◌+◌, ◌*◌, ◌<◌, ◌≤◌}
 use mathlib.Core.Path.{◌≡◌}
-use mathlib.Core.Bool.{Bool, true, false}
+use mathlib.Core.Bool.{false}
 use mathlib.Core.List.{List}
-use borrow.Author.Tests.{lt-ltb, le-ltb, lt-leb, ltb-false, leb-false}
+use borrow.Author.Tests.{le-ltb, lt-leb, ltb-false, leb-false}
 use native.Mathlib.Omega.{arith}
-use lib.Dec.{leb, ltb}
+use lib.Dec.{ltb}
 use lib.ListN.{length}
 use lib.Ieee.{Float}
 use Rattle.base.proofs.Faults.{neither}
@@ -23,31 +23,6 @@ pub record Fits (x y u t n l w z : ℕ) : Type 0 where
   pub columns : w * u + l * t < y + t + u
 
 module _ (x y u t n l w z : ℕ) where
-  -- b and d are what the tests of the rows said
-  module _ {b : Bool} (e : b ≡ refuses most_conditions n l x) where
-    pub rows_refused : b ≡ true → true ≡ misfits x y u t n l w z
-    unfolding misfits
-    rows_refused h = rw (← e, h)
-
-    module _ (h : b ≡ false) {d : Bool} (e' : d ≡ refuses most_conditions n w z) where
-      pub room_refused : d ≡ true → true ≡ misfits x y u t n l w z
-      unfolding misfits
-      room_refused h' = rw (← e, h, ← e', h')
-
-      module _ (h' : d ≡ false) where
-        pub far_columns : most_conditions < u → true ≡ misfits x y u t n l w z
-        unfolding misfits
-        far_columns i = rw (← e, h, ← e', h', lt-ltb most_conditions u i)
-
-        module _ (f : u ≤ most_conditions) where
-          pub far_places : most_conditions < t → true ≡ misfits x y u t n l w z
-          unfolding misfits
-          far_places i = rw (← e, h, ← e', h', le-ltb most_conditions u f, lt-ltb most_conditions t i)
-
-          pub columns_asked : t ≤ most_conditions → leb (y + t + u) (w * u + l * t) ≡ misfits x y u t n l w z
-          unfolding misfits
-          columns_asked i = rw (← e, h, ← e', h', le-ltb most_conditions u f, le-ltb most_conditions t i)
-
   pub fitting : misfits x y u t n l w z ≡ false → Fits x y u t n l w z
   unfolding misfits
   fitting e =

@@ -1,5 +1,7 @@
 // The product of two matrices, and C S C'. The rows of a matrix lie one after another in lent memory.
-// The lent rows and their sizes stay parameters: a struct of them would have each clause say, beside what the rows become, that the sizes stay.
+// Rows that are written stay a slice with their sizes beside it: a struct would have each clause say, beside what the rows become, that the sizes stay.
+// Rows that are only read are slices and numbers in the clauses of the public functions, and the private ones hand them on.
+// Whether the sizes are taken is a `bool`: there is one way not to be, and the definitions say it so.
 #![tactic(auto)]
 
 mod rows;
@@ -13,6 +15,7 @@ use rows::product_rows;
 const BETWEEN: usize = matrix_places::MOST_CONTRASTS * base::MOST_CONDITIONS;
 
 // Is there no room for n rows of l places in a, for n rows of w places in out, or for w columns of l places in b?
+#[tactic(auto, using(matrix_places::proofs::Sizes::sized), unfolding(crate::specs::Product::misfits))]
 fn misfits(
     a: &[f64],
     b: &[f64],
@@ -25,19 +28,11 @@ fn misfits(
 ) -> bool
     ensures { result ≡ misfits (length a.now) (length b.now) u t n l w (length out.now) }
 {
-    if matrix_places::refuses(base::MOST_CONDITIONS, n, l, a.len()) {
-        return true;
-    }
-    if matrix_places::refuses(base::MOST_CONDITIONS, n, w, out.len()) {
-        return true;
-    }
-    if base::MOST_CONDITIONS < u {
-        return true;
-    }
-    if base::MOST_CONDITIONS < t {
-        return true;
-    }
-    b.len() + t + u <= w * u + l * t
+    matrix_places::refuses(base::MOST_CONDITIONS, n, l, a.len())
+        || matrix_places::refuses(base::MOST_CONDITIONS, n, w, out.len())
+        || base::MOST_CONDITIONS < u
+        || base::MOST_CONDITIONS < t
+        || b.len() + t + u <= w * u + l * t
 }
 
 // The product of the n rows of l places of a and the w columns of b, to the first places of out. Column j of b begins at j * u, and its places are t apart:
@@ -64,16 +59,14 @@ pub fn product(
 
 // C S C' to the first places of out, where C is the p rows of k places and S is k rows of k.
 // Sizes that are not taken, or no room for one of the matrices: false, and nothing is changed.
+#[tactic(auto, using(crate::proofs::Calls::csc_first, crate::proofs::Calls::csc_second, crate::proofs::Calls::csc_third, crate::proofs::Calls::csc_taken, base::proofs::Bounds::product_le, matrix_places::proofs::Sizes::Sized, matrix_places::proofs::Sizes::sized), unfolding(crate::specs::Product::blank))]
 pub fn matrix_multiply_csc(c: &[f64], s: &[f64], p: usize, k: usize, out: &mut [f64]) -> bool
     ensures { (out.new, result) ≡ matrix_multiply_csc p k c.now s.now out.old }
 {
-    if matrix_places::refuses(matrix_places::MOST_CONTRASTS, p, k, c.len()) {
-        return false;
-    }
-    if matrix_places::refuses(base::MOST_CONDITIONS, k, k, s.len()) {
-        return false;
-    }
-    if matrix_places::refuses(matrix_places::MOST_CONTRASTS, p, p, out.len()) {
+    if matrix_places::refuses(matrix_places::MOST_CONTRASTS, p, k, c.len())
+        || matrix_places::refuses(base::MOST_CONDITIONS, k, k, s.len())
+        || matrix_places::refuses(matrix_places::MOST_CONTRASTS, p, p, out.len())
+    {
         return false;
     }
     let mut cs = [0.0; BETWEEN];

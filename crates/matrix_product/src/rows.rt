@@ -1,10 +1,11 @@
 // The rows of a product, for matrices that fit.
-// Loops go by number where a place of lent memory is set: of what an iterator over `&mut` wrote a proof knows the length alone.
+// Loops go by number, as the loops of the definitions do: the two are read side by side, and a turn of one is a turn of the other.
 ghost use Rattle.std.specs.Prelude.{◌≡◌, ◌+◌, ◌*◌, ◌≤◌, ◌<◌, length};
 ghost use Rattle.base.specs.Limits.{most_conditions};
 ghost use Rattle.matrix_product.specs.Product.{product_row, product};
 
 // Row i of the product: l products to each of its w places.
+#[tactic(auto, using(matrix_places::proofs::Room::dot_room, crate::proofs::Steps::product_step, base::proofs::Bounds::row_end, base::proofs::Loops::ends), unfolding(crate::specs::Product::product_row))]
 pub fn product_row(
     a: &[f64],
     b: &[f64],

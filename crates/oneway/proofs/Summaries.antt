@@ -4,43 +4,54 @@ use mathlib.Core.List.{List, [], ◌∷◌, ◌++◌, map, map-map, flatten}
 use Prim.Native.Nat.{ℕ, ◌≤◌}
 use native.Mathlib.Omega.{arith}
 use lib.Ieee.{Float}
-use lib.ListN.{length, take, length-map, length-append, length-drop, length-take}
+use lib.ListN.{length, take, length-map, length-take}
 use lib.Seq.{take_at, length-take-le}
 use Rattle.base.specs.Lists.{total, cut, over}
 use Rattle.base.proofs.Cuts.{length_cut, lengths_cut}
+use Rattle.float.specs.Words.{plus_zero}
+use Rattle.stats.specs.declared.Figure.{Figure}
 use Rattle.stats.specs.Figures.{mean_answer}
-use Rattle.stats.specs.Sums.{mean_of}
 use Rattle.oneway_rows.specs.declared.Row.{Row}
 use Rattle.oneway_rows.specs.Inner.{Parted}
-use Rattle.oneway_rows.specs.Rows.{row_of, rows_of, rows_put, empty_rows}
+use Rattle.oneway_rows.specs.Rows.{row_of, row_answer, rows_of, rows_put, empty_rows}
 use Rattle.oneway_rows.specs.Soundness.{sizes_in, sound_refusal}
 use Rattle.oneway_rows.proofs.Counted.{sound, sizes_added}
 use Rattle.oneway_rows.proofs.Laid.{rows_there, each_group, mean_there}
-use Rattle.oneway.specs.Summary.{size_of, row_mean, n_total, group_sizes, group_means}
-use Rattle.oneway.specs.Inner.{Small}
+use Rattle.oneway.specs.declared.AnovaKind.{AnovaKind}
+use Rattle.oneway.specs.declared.AnovaKind.TheVariants.{Levene}
+use Rattle.oneway.specs.Anova.{anova}
+use Rattle.oneway.specs.Summary.{size_of, row_mean}
+use Rattle.oneway.specs.Inner.{Small, mean_row}
 use Rattle.oneway.specs.Fisher.{fisher_anova}
-use Rattle.oneway.specs.Levene.{distances, fisher_of}
-use Rattle.oneway.proofs.Distances.{put_front, put_parted, put_cut}
-use Rattle.results.specs.Results.{no_sizes, no_means}
+use Rattle.oneway.specs.Levene.{distances_of, levene_anova}
+use Rattle.oneway.proofs.Distances.{put_front, far_count, far_rows, sizes_kept, levene_of}
 
 pub lengths_are : (gs : List (List Float)) → map size_of (map row_of gs) ≡ map length gs
 lengths_are [] = refl
 lengths_are (g ∷ gs) = ap (λ (ns : List ℕ). length g ∷ ns) (lengths_are gs)
 
-pub over_long : {A : Type 0} (front back : List A) → length back ≤ length (over front back)
-over_long front back = simp (length-append, length-drop) (omega arith)
+-- what the analyses ask of rows, of groups that passed the checks
+pub small_parted : (rs : List Row) (n : ℕ) → Parted n (map size_of rs) → Small rs
+small_parted rs n p =
+    let l = length-map rs size_of in
+    record { groups = omega (arith, l, p.sizes.rows); readings = rw (sizes_added rs, p.sizes.adds) p.sizes.readings }
 
--- a column of k rows: its first places are the rows' own
-module _ {B : Type 0} (f : Row → B) (rs : List Row) (back : List B) {k : ℕ} {col : List B} (l : length rs ≡ k) (e : col ≡ over (map f rs) back) where
-  pub column_front : take k col ≡ map f rs
-  column_front = rw e (take_at (map f rs) _ k (length-map rs f ∙ l))
+-- a group's row without its squares, with what `mean` answers of it
+abbrev pub told_row : List Float → Row
+told_row group = record { size = length group; mean = (mean_answer group).value; sq_dev = plus_zero }
 
-  pub column_long : k ≤ length back → k ≤ length col
-  column_long h = rw e (omega (arith, h, over_long (map f rs) back))
+told_same : (group : List Float) → 1 ≤ length group → length group ≤ 512 → told_row group ≡ mean_row group
+told_same group l u = rw (mean_there group l u)
 
--- what `mean` answers of a group
-abbrev pub told_mean : List Float → Float
-told_mean group = (mean_answer group).value
+-- as the walk has it of the n readings in front of what is left
+pub told_front : (rest : List Float) (n : ℕ) → n ≤ length rest → {front : List Float} → front ≡ take n rest → {m : Figure} → m ≡ mean_answer front
+    → record { size = n; mean = m.value; sq_dev = plus_zero } ≡ told_row (take n rest)
+told_front rest n h f e = let k = length-take-le n rest h in rw (e, f, k)
+
+-- rows that are parted as the groups are, and of which the formulas say what they say of the groups' own rows
+pub record Stands (kind : AnovaKind) (xs : List Float) (ns : List ℕ) (rows : List Row) : Type 0 where
+  pub parted_here : Parted (length xs) (map size_of (take (length ns) rows))
+  pub same : anova kind (take (length ns) rows) xs ≡ anova kind (map row_of (cut ns xs)) xs
 
 -- groups that passed the checks
 module _ (xs : List Float) (ns : List ℕ) (p : Parted (length xs) ns) where
@@ -50,15 +61,8 @@ module _ (xs : List Float) (ns : List ℕ) (p : Parted (length xs) ns) where
   as_many : length (map row_of (cut ns xs)) ≡ length ns
   as_many = length-map (cut ns xs) row_of ∙ length_cut ns xs
 
-  pub small_groups : Small (map row_of (cut ns xs))
-  small_groups =
-      let n : n_total (map row_of (cut ns xs)) ≡ length xs = ap total (sym own_sizes) ∙ p.sizes.adds in
-      record { groups = omega (arith, as_many, p.sizes.rows); readings = rw (sizes_added (map row_of (cut ns xs)), n) p.sizes.readings }
-
-  pub told_means : over (map told_mean (cut ns xs)) no_means ≡ group_means (map row_of (cut ns xs))
-  told_means =
-      ap (λ (ms : List Float). over ms no_means)
-      (each_group told_mean mean_of mean_there ns xs (omega (arith, p.sizes.adds)) p.sizes.readings p.each ∙ sym (map-map row_mean row_of (cut ns xs)))
+  pub told_rows : map told_row (cut ns xs) ≡ map mean_row (cut ns xs)
+  told_rows = each_group told_row mean_row told_same ns xs (omega (arith, p.sizes.adds)) p.sizes.readings p.each
 
   -- their rows, as the code has them
   module _ {rows : List Row} (e : rows ≡ rows_put xs ns empty_rows) where
@@ -66,21 +70,23 @@ module _ (xs : List Float) (ns : List ℕ) (p : Parted (length xs) ns) where
     unfolding rows_of
     own_rows = rw (e, rows_there xs ns p) (take_at (map row_of (cut ns xs)) _ (length ns) as_many)
 
-    pub rows_long : length ns ≤ length rows
-    unfolding rows_of empty_rows
-    rows_long = rw (e, rows_there xs ns p) (omega (arith, p.sizes.rows, over_long (map row_of (cut ns xs)) empty_rows))
+    pub own_stand : (kind : AnovaKind) → Stands kind xs ns rows
+    own_stand kind = record { parted_here = rw (own_rows, ← own_sizes) p; same = rw own_rows refl }
 
-    pub small_rows : Small (take (length ns) rows)
-    small_rows = rw own_rows small_groups
+  -- their rows without the squares
+  module _ {rows : List Row} (e : rows ≡ over (map mean_row (cut ns xs)) empty_rows) where
+    mean_rows : take (length ns) rows ≡ map mean_row (cut ns xs)
+    mean_rows = rw e (take_at (map mean_row (cut ns xs)) _ (length ns) (length-map (cut ns xs) mean_row ∙ length_cut ns xs))
 
-  -- their means alone
-  module _ {means : List Float} (e : means ≡ group_means (map row_of (cut ns xs))) where
-    pub means_long : length ns ≤ length means
-    unfolding no_means
-    means_long = column_long row_mean (map row_of (cut ns xs)) no_means as_many e p.sizes.rows
+    mean_sizes : map size_of (map mean_row (cut ns xs)) ≡ ns
+    mean_sizes = map-map size_of mean_row (cut ns xs) ∙ lengths_cut ns xs (omega (arith, p.sizes.adds))
 
-    pub own_means : take (length ns) means ≡ map row_mean (map row_of (cut ns xs))
-    own_means = column_front row_mean (map row_of (cut ns xs)) no_means as_many e
+    pub means_stand : Stands Levene xs ns rows
+    unfolding anova levene_anova
+    means_stand = record {
+      parted_here = rw (mean_rows, mean_sizes) p;
+      same = rw mean_rows (levene_of (map row_of (cut ns xs)) xs (map-map row_mean mean_row (cut ns xs) ∙ sym (map-map row_mean row_of (cut ns xs))) (mean_sizes ∙ own_sizes));
+    }
 
 -- rows that the caller holds
 module _ (k : ℕ) (rows : List Row) (z : (sound_refusal k rows).number ≡ 0) where
@@ -90,34 +96,23 @@ module _ (k : ℕ) (rows : List Row) (z : (sound_refusal k rows).number ≡ 0) w
   pub rows_taken : length rows ≡ 16 → length (take k rows) ≡ k
   rows_taken e = let s = sound k rows z in length-take-le k rows (omega (arith, e, s.high))
 
-  parted_rows : {n : ℕ} → total (sizes_in k rows) ≡ n → Parted n (sizes_in k rows)
+  pub parted_rows : {n : ℕ} → total (sizes_in k rows) ≡ n → Parted n (sizes_in k rows)
   parted_rows e =
       let s = sound k rows z in
       record { sizes = record { rows = simp (length-map, length-take) (omega (arith, s.high)); readings = omega (arith, s.fits); adds = e }; each = s.each }
 
-  -- and their columns
-  module _ (h : length rows ≡ 16) {ms : List Float} {ns : List ℕ} (c : ns ≡ group_sizes (take k rows)) (d : ms ≡ group_means (take k rows)) where
-    pub held_sizes : take k ns ≡ map size_of (take k rows)
-    held_sizes = column_front size_of (take k rows) no_sizes (rows_taken h) c
+-- the distances from the means that the rows rs hold, and the rows of them as they were put
+module _ (rs : List Row) (xs : List Float) (p : Parted (length xs) (map size_of rs)) {far : List Row} (put : far ≡ over (map row_answer (distances_of rs xs)) empty_rows) where
+  far_front : take (length rs) far ≡ map row_of (distances_of rs xs)
+  far_front =
+      rw put (take_at (map row_answer (distances_of rs xs)) _ (length rs) (length-map (distances_of rs xs) row_answer ∙ far_count rs xs p.sizes.adds))
+      ∙ far_rows rs xs p.sizes.adds p.sizes.readings p.each
 
-    pub held_means : take k ms ≡ map row_mean (take k rows)
-    held_means = column_front row_mean (take k rows) no_means (rows_taken h) d
+  pub far_small : Small (take (length rs) far)
+  far_small =
+      let kept : map size_of (map row_of (distances_of rs xs)) ≡ map size_of rs = lengths_are (distances_of rs xs) ∙ sizes_kept rs xs p.sizes.adds in
+      rw far_front (small_parted (map row_of (distances_of rs xs)) (length xs) (rw kept p))
 
-    pub sizes_held : k ≤ length ns
-    unfolding no_sizes
-    sizes_held = column_long size_of (take k rows) no_sizes (rows_taken h) c (sound k rows z).high
-
-    pub means_held : k ≤ length ms
-    unfolding no_means
-    means_held = column_long row_mean (take k rows) no_means (rows_taken h) d (sound k rows z).high
-
-    pub held_parted : {n : ℕ} → total (sizes_in k rows) ≡ n → Parted n (take k ns) × (length (take k ms) ≡ length (take k ns))
-    held_parted e = rw (held_sizes, held_means) (parted_rows e, length-map (take k rows) row_mean ∙ sym (length-map (take k rows) size_of))
-
--- Fisher's formulas over the distances as they were put, and their rows
-module _ (ms : List Float) (ns : List ℕ) (xs : List Float) (e : length ms ≡ length ns) (p : Parted (length xs) ns) {out : List Float} (put : out ≡ flatten (distances ms (cut ns xs))) (back : List Float) where
-  pub fisher_of_put : {rows : List Row} → rows ≡ rows_put (take (length xs) (out ++ back)) ns empty_rows → fisher_anova (take (length ns) rows) (take (length xs) (out ++ back)) ≡ fisher_of (distances ms (cut ns xs))
-  fisher_of_put q =
-      let far : List (List Float) = distances ms (cut ns xs) in
-      let groups = own_rows (take (length xs) (out ++ back)) ns (put_parted ms ns xs e p put back) q ∙ ap (map row_of) (put_cut ms ns xs e p put back) in
-      rw (groups, put_front ms ns xs e p put back)
+  pub fisher_of_far : {out : List Float} → out ≡ flatten (distances_of rs xs) → (back : List Float) → fisher_anova (take (length rs) far) (take (length xs) (out ++ back)) ≡ levene_anova rs xs
+  unfolding levene_anova
+  fisher_of_far q back = rw (far_front, put_front rs xs p.sizes.adds q back)

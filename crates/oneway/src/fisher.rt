@@ -9,26 +9,27 @@ use base::Refusal;
 use oneway_rows::Row;
 use results::OneWayAnovaResult;
 
-#[tactic(auto, unfolding(stats::specs::Sums::sum_by))]
 fn ss_between(rows: &[Row], grand_mean: f64) -> f64
     ensures { result ≡ sum_by (between_of grand_mean) rows.now }
 {
     float::canon(
-        rows.iter().fold(-0.0, |t, row| {
-            let d = row.mean - grand_mean;
-            t + row.size as f64 * (d * d)
-        }),
+        rows.iter()
+            .map(|row| {
+                let d = row.mean - grand_mean;
+                row.size as f64 * (d * d)
+            })
+            .sum(),
     )
 }
 
-#[tactic(auto, unfolding(stats::specs::Sums::sum_by))]
 fn ss_within(rows: &[Row]) -> f64
     ensures { result ≡ sum_by within_of rows.now }
 {
-    float::canon(rows.iter().fold(-0.0, |t, row| t + row.sq_dev))
+    float::canon(rows.iter().map(|row| row.sq_dev).sum())
 }
 
 // `Small rows` stays a clause: a struct round the slice would be taken apart again in each of the three functions that ask it.
+#[tactic(auto, using(oneway_rows::proofs::Counted::sizes_added), unfolding(crate::specs::Fisher::fisher_anova, results::specs::Results::no_sizes, results::specs::Results::no_means))]
 pub fn fisher_anova(rows: &[Row], readings: &[f64]) -> OneWayAnovaResult
     requires { Small rows.now }
     ensures { result ≡ fisher_anova rows.now readings.now }
@@ -41,8 +42,8 @@ pub fn fisher_anova(rows: &[Row], readings: &[f64]) -> OneWayAnovaResult
     let grand_mean = float::canon(stats::sum(readings) / (n_total as f64));
     let ss_between = ss_between(rows, grand_mean);
     let ss_within = ss_within(rows);
-    let df_between = base::minus(k as u32, 1) as f64;
-    let df_within = base::minus(n_total, k as u32) as f64;
+    let df_between = (k as u32).saturating_sub(1) as f64;
+    let df_within = n_total.saturating_sub(k as u32) as f64;
     let ms_between = float::canon(ss_between / df_between);
     let ms_within = float::canon(ss_within / df_within);
     OneWayAnovaResult {

@@ -7,8 +7,10 @@ mod levene;
 mod summary;
 mod welch;
 
-ghost use Rattle.std.specs.Prelude.{◌≡◌};
-ghost use Rattle.oneway.specs.Anova.{one_way_anova, rows_report};
+ghost use Rattle.std.specs.Prelude.{◌≡◌, map, length};
+ghost use Rattle.oneway_rows.specs.Inner.{Parted};
+ghost use Rattle.oneway.specs.Summary.{size_of};
+ghost use Rattle.oneway.specs.Anova.{anova, one_way_anova, rows_report};
 
 use base::Refusal;
 use oneway_rows::Row;
@@ -21,34 +23,39 @@ pub enum AnovaKind {
     Levene,
 }
 
+// The formulas of a kind, over rows whose sizes passed the checks.
+#[tactic(auto, using(crate::proofs::Summaries::small_parted), unfolding(crate::specs::Anova::anova))]
+fn anova(kind: AnovaKind, rows: &[Row], readings: &[f64]) -> OneWayAnovaResult
+    requires { Parted (length readings.now) (map size_of rows.now) }
+    ensures { result ≡ anova kind rows.now readings.now }
+{
+    match kind {
+        AnovaKind::Fisher => fisher::fisher_anova(rows, readings),
+        AnovaKind::Welch => welch::welch_anova(rows),
+        AnovaKind::Levene => levene::levene_anova(readings, rows),
+    }
+}
+
 // The analysis of groups that lie one after another in `readings`, as many readings in each as `sizes` says.
+#[tactic(auto, using(base::proofs::Order::passed_answer, base::proofs::Order::refused_answer, base::proofs::Order::was_passed, base::proofs::Order::was_refused, oneway_rows::proofs::Parts::parted), unfolding(crate::specs::Anova::one_way_anova, oneway_rows::specs::Rows::empty_rows))]
 pub fn one_way_anova(readings: &[f64], sizes: &[u32], kind: AnovaKind) -> OneWayAnovaResult
     ensures { result ≡ one_way_anova kind readings.now sizes.now }
 {
     if let Err(refusal) = oneway_checks::one_way_refusal(readings, sizes) {
         return results::refused(refusal);
     }
-    let k = sizes.len();
     let mut rows = [Row::empty(); base::MOST_GROUPS];
     match kind {
-        AnovaKind::Fisher => {
-            oneway_rows::put_rows(&mut rows, readings, sizes);
-            fisher::fisher_anova(&rows[..k], readings)
-        }
-        AnovaKind::Welch => {
-            oneway_rows::put_rows(&mut rows, readings, sizes);
-            welch::welch_anova(&rows[..k])
-        }
-        // Levene's analysis looks at the means alone, and so does not work out the squares.
-        AnovaKind::Levene => {
-            let means = summary::means_of(readings, sizes);
-            levene::levene_anova(readings, sizes, &means[..k])
-        }
+        AnovaKind::Fisher | AnovaKind::Welch => oneway_rows::put_rows(&mut rows, readings, sizes),
+        // Levene's analysis looks at the sizes and means alone, and so the squares are not worked out.
+        AnovaKind::Levene => summary::put_means(&mut rows, readings, sizes),
     }
+    anova(kind, &rows[..sizes.len()], readings)
 }
 
 // The analysis of k groups whose rows the caller holds already, with their readings: the same formulas, and no row is worked out anew.
 // Behind 13, readings that are not as many as the rows say are refused with 10.
+#[tactic(auto, using(base::proofs::Order::answers_refused, base::proofs::Order::was_passed, base::proofs::Order::was_refused, oneway_rows::proofs::Counted::sound, oneway_rows::proofs::Counted::sizes_added, crate::proofs::Summaries::small_sound, crate::proofs::Summaries::rows_taken, crate::proofs::Summaries::parted_rows, crate::proofs::Reports::ten, crate::proofs::Reports::report_unsound, crate::proofs::Reports::report_sound), unfolding(crate::specs::Anova::rows_report))]
 pub fn report(
     rows: [Row; base::MOST_GROUPS],
     k: usize,
@@ -65,14 +72,5 @@ pub fn report(
     if needed != readings.len() as u64 {
         return results::refused(Refusal::new(10, needed, readings.len() as u64));
     }
-    match kind {
-        AnovaKind::Fisher => fisher::fisher_anova(rows, readings),
-        AnovaKind::Welch => welch::welch_anova(rows),
-        AnovaKind::Levene => {
-            let mut sizes = [0u32; base::MOST_GROUPS];
-            let mut means = [0.0; base::MOST_GROUPS];
-            summary::put_columns(&mut sizes, &mut means, rows);
-            levene::levene_anova(readings, &sizes[..k], &means[..k])
-        }
-    }
+    anova(kind, rows, readings)
 }

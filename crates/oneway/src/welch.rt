@@ -1,5 +1,5 @@
 // Welch's analysis, which lets the groups' variances differ: each group has a weight.
-// Loops go by number where a place of lent memory is set: of what an iterator over `&mut` wrote a proof knows the length alone.
+// Where places are set from other places, loops go by number: of what `iter_mut().zip(..)` writes a proof knows the length alone.
 ghost use Rattle.std.specs.Prelude.{◌≡◌, ◌≤◌, length};
 ghost use Rattle.base.specs.Limits.{most_groups};
 ghost use Rattle.base.specs.Lists.{over};
@@ -38,7 +38,7 @@ pub struct WelchTest {
 fn weigh(row: &Row, k: u32) -> Weighed
     ensures { result ≡ weigh k row.now }
 {
-    let variance = row.sq_dev / (base::minus(row.size, 1) as f64);
+    let variance = row.sq_dev / (row.size.saturating_sub(1) as f64);
     let weight = if variance < 1e-15 {
         f64::MAX / (k as f64)
     } else {
@@ -52,6 +52,7 @@ fn weigh(row: &Row, k: u32) -> Weighed
 }
 
 // Puts the rows, weighed, into the places of `out`.
+#[tactic(auto, using(base::proofs::Fills::fill_starts, base::proofs::Fills::fill_step, base::proofs::Fills::fill_ends, oneway_rows::proofs::Counted::unread))]
 fn put_weighed(out: &mut [Weighed], rows: &[Row])
     requires { (length rows.now ≤ length out.old) × (length rows.now ≤ most_groups) }
     ensures { out.new ≡ over (all_weighed rows.now) out.old }
@@ -61,41 +62,41 @@ fn put_weighed(out: &mut [Weighed], rows: &[Row])
     }
 }
 
-#[tactic(auto, unfolding(stats::specs::Sums::sum_by))]
 fn sum_weights(rows: &[Weighed]) -> f64
     ensures { result ≡ sum_weights rows.now }
 {
-    float::canon(rows.iter().fold(-0.0, |t, row| t + row.weight))
+    float::canon(rows.iter().map(|row| row.weight).sum())
 }
 
-#[tactic(auto, unfolding(stats::specs::Sums::sum_by))]
 fn weighted_sum(rows: &[Weighed]) -> f64
     ensures { result ≡ sum_by mean_in rows.now }
 {
-    float::canon(rows.iter().fold(-0.0, |t, row| t + row.weight * row.mean))
+    float::canon(rows.iter().map(|row| row.weight * row.mean).sum())
 }
 
-#[tactic(auto, unfolding(stats::specs::Sums::sum_by))]
 fn spread(rows: &[Weighed], mean: f64) -> f64
     ensures { result ≡ sum_by (spread_about mean) rows.now }
 {
     float::canon(
-        rows.iter().fold(-0.0, |t, row| {
-            let d = row.mean - mean;
-            t + row.weight * (d * d)
-        }),
+        rows.iter()
+            .map(|row| {
+                let d = row.mean - mean;
+                row.weight * (d * d)
+            })
+            .sum(),
     )
 }
 
-#[tactic(auto, unfolding(stats::specs::Sums::sum_by))]
 fn adjustment(rows: &[Weighed], sum_weights: f64) -> f64
     ensures { result ≡ sum_by (rest_of sum_weights) rows.now }
 {
     float::canon(
-        rows.iter().fold(-0.0, |t, row| {
-            let d = 1.0 - row.weight / sum_weights;
-            t + d * d / (base::minus(row.size, 1) as f64)
-        }),
+        rows.iter()
+            .map(|row| {
+                let d = 1.0 - row.weight / sum_weights;
+                d * d / (row.size.saturating_sub(1) as f64)
+            })
+            .sum(),
     )
 }
 
@@ -115,11 +116,11 @@ fn welch_test(k: u32, sums: WelchSums) -> WelchTest
     requires { k ≤ most_groups }
     ensures { result ≡ welch_test k sums }
 {
-    let df_between = base::minus(k, 1) as f64;
+    let df_between = k.saturating_sub(1) as f64;
     let f_numerator = sums.spread / df_between;
-    let k_squared_less_one = base::minus(k * k, 1) as f64;
+    let k_squared_less_one = (k * k).saturating_sub(1) as f64;
     let lambda = sums.adjustment * 3.0 / k_squared_less_one;
-    let f_stat = f_numerator / (1.0 + 2.0 * lambda * (base::minus(k, 2) as f64) / 3.0);
+    let f_stat = f_numerator / (1.0 + 2.0 * lambda * (k.saturating_sub(2) as f64) / 3.0);
     let df_within = k_squared_less_one / (3.0 * sums.adjustment);
     WelchTest {
         statistic: float::canon(f_stat),

@@ -11,6 +11,7 @@ ghost use Rattle.oneway_checks.specs.Checks.{groups_refusal, one_way_refusal, vi
 use base::Refusal;
 
 // Group number k, counted from 1: fewer than two readings, or a NaN, for which it looks only where `nans` says that there may be one.
+// `nans` is a parameter so that no reading is looked at twice where none is a NaN.
 fn group_fault(k: u64, group: &[f64], nans: bool) -> Result<(), Refusal>
     ensures { result ≡ verdict (sought_fault nans k group.now) }
 {
@@ -33,6 +34,7 @@ fn groups_refusal(readings: &[f64], sizes: &[u32]) -> Result<(), Refusal>
 }
 
 // The one-way checks, in document 01's order.
+#[tactic(auto, using(base::proofs::Order::ends_there, base::proofs::Order::asks_next), unfolding(crate::specs::Checks::one_way_refusal))]
 pub fn one_way_refusal(readings: &[f64], sizes: &[u32]) -> Result<(), Refusal>
     ensures { result ≡ verdict (one_way_refusal readings.now sizes.now) }
 {
@@ -45,6 +47,7 @@ pub fn one_way_refusal(readings: &[f64], sizes: &[u32]) -> Result<(), Refusal>
 }
 
 // Why `group` hands back nothing.
+#[tactic(auto, using(base::proofs::Order::ends_there, base::proofs::Order::asks_next), unfolding(crate::specs::Checks::view_refusal))]
 pub fn group_refusal(readings: &[f64], sizes: &[u32], g: usize) -> Result<(), Refusal>
     ensures { result ≡ verdict (view_refusal readings.now sizes.now g) }
 {
@@ -56,6 +59,7 @@ pub fn group_refusal(readings: &[f64], sizes: &[u32], g: usize) -> Result<(), Re
 }
 
 // The readings of group g, counted from 0, as a part of the readings that were lent; empty where `group_refusal` refuses.
+#[tactic(auto, using(base::proofs::Order::refused_answer, base::proofs::Order::passed_answer, base::proofs::Order::was_passed, base::proofs::Order::was_refused, crate::proofs::Doors::shown, crate::proofs::Walk::view_here), unfolding(crate::specs::Checks::view_of))]
 pub fn group<'a>(readings: &'a [f64], sizes: &[u32], g: usize) -> &'a [f64]
     ensures { result.now ≡ view_of readings.now sizes.now g }
 {

@@ -1,6 +1,6 @@
 // One-way data: the row that each group is worked into, and the rows of all groups.
 // Readings and sizes are two slices, as document 01 has them: refusal 10 tells their sums.
-// Loops go by number where a place of lent memory is set: of what an iterator over `&mut` wrote a proof knows the length alone.
+// Where places are set from other places, loops go by number: of what `iter_mut().zip(..)` writes a proof knows the length alone.
 #![tactic(auto)]
 
 pub mod sound;
@@ -18,7 +18,8 @@ pub struct Row {
     pub sq_dev: f64,
 }
 
-// The rows of all groups, and empty rows behind them; or a refusal. Document 01 fixes this record, with the refusal beside the rows.
+// The rows of all groups, and empty rows behind them; or a refusal.
+// It stands beside the rows and not in a `Result`: the edit `validate_anova_groups--refused-with-a-group` changes the count beside it.
 // Memory is fixed and nothing is on a heap: the arrays have their counts beside them.
 #[derive(Clone, Copy)]
 pub struct GroupStats {
@@ -40,6 +41,7 @@ impl Row {
     }
 
     // The row of a group of 1 to 512 readings; the empty row where `mean` refuses.
+    #[tactic(auto, using(base::proofs::Order::refused_answer, base::proofs::Order::was_passed, base::proofs::Order::was_refused, stats::proofs::Passed::mean_passed, crate::proofs::Laid::mean_tells, crate::proofs::Laid::row_made), unfolding(crate::specs::Rows::row_answer))]
     pub fn of(group: &[f64]) -> Row
         ensures { result ≡ row_answer group.now }
     {
@@ -59,7 +61,12 @@ impl Row {
     }
 }
 
-// Puts the row of each group into its place, as `Row::of` hands it out, as far as there are places. Where there are fewer readings than the sizes say, the last groups are shorter.
+// Puts the row of each group into its place, as `Row::of` hands it out, as far as there are places.
+// Where there are fewer readings than the sizes say, the last groups are shorter.
+// The walk from group to group stands in `base::first_fault` and in oneway's `put_means` too. One for all would take an `FnMut`,
+// and each caller would have to say what that does to the memory that the closure holds.
+// One for the two that put rows would be public with a `requires`, as it takes a closure: `first_fault` is the only such function.
+#[tactic(auto, using(std::proofs::lemmas::List::take_min, std::proofs::lemmas::List::drop_min, crate::proofs::Laid::laid_start, crate::proofs::Laid::laid_turn, crate::proofs::Laid::laid_done), unfolding(crate::specs::Rows::rows_put))]
 pub fn put_rows(out: &mut [Row], readings: &[f64], sizes: &[u32])
     ensures { out.new ≡ rows_put readings.now sizes.now out.old }
 {
@@ -72,6 +79,7 @@ pub fn put_rows(out: &mut [Row], readings: &[f64], sizes: &[u32])
     }
 }
 
+// No `impl From<Refusal>`, which would be no plainer: one private function has one caller, and a `From` would be one more public promise.
 #[tactic(auto, unfolding(crate::specs::Rows::empty_rows))]
 fn refused(refusal: Refusal) -> GroupStats
     ensures { result ≡ refused_stats refusal }
@@ -84,6 +92,7 @@ fn refused(refusal: Refusal) -> GroupStats
 }
 
 // The groups' rows, where the one-way checks are passed.
+#[tactic(auto, using(base::proofs::Cuts::length_cut, base::proofs::Order::passed_answer, base::proofs::Order::refused_answer, base::proofs::Order::was_passed, base::proofs::Order::was_refused, crate::proofs::Laid::rows_there, crate::proofs::Parts::parted), unfolding(crate::specs::Rows::validate_anova_groups, crate::specs::Rows::empty_rows))]
 pub fn validate_anova_groups(readings: &[f64], sizes: &[u32]) -> GroupStats
     ensures { result ≡ validate_anova_groups readings.now sizes.now }
 {

@@ -12,7 +12,7 @@ use base::Refusal;
 fn outside(low: usize, high: usize, n: usize) -> bool
     ensures { result ≡ outside low high n }
 {
-    n < low || high < n
+    !(low..=high).contains(&n)
 }
 
 fn any_outside(rows: &[Row]) -> bool
@@ -35,6 +35,7 @@ fn unsound(rows: &[Row]) -> bool
 }
 
 // The check of the first k rows.
+#[tactic(auto, using(crate::proofs::Counted::unsound_rows), unfolding(crate::specs::Soundness::sound_refusal))]
 pub fn rows_refusal(rows: [Row; base::MOST_GROUPS], k: usize) -> Result<(), Refusal>
     ensures { result ≡ verdict (sound_refusal k rows) }
 {

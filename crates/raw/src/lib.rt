@@ -88,23 +88,21 @@ pub extern "C" fn raw_sq_dev(readings: &[f64], mean: f64) -> f64 {
 #[unsafe(no_mangle)]
 pub extern "C" fn raw_mean(readings: &[f64], out: &mut [f64]) -> u32 {
     let r = stats::mean(readings);
-    let numbers = [r.value];
-    lent::put(out, &numbers);
+    lent::put(out, &[r.value]);
     r.refusal.number
 }
 
 #[unsafe(no_mangle)]
 pub extern "C" fn raw_variance(readings: &[f64], out: &mut [f64]) -> u32 {
     let r = stats::variance(readings);
-    let numbers = [r.value];
-    lent::put(out, &numbers);
+    lent::put(out, &[r.value]);
     r.refusal.number
 }
 
 // ---- one-way data: rows, analyses, the sheet, the reading set
 
 // C hands in and takes out numbers and lists beside each other.
-// 0 is Fisher's, 1 Welch's, and any other number Levene's: the numbers are what the program in C hands in.
+// 0 is Fisher's, 1 Welch's, and any other number Levene's. It stands here since C hands over a number, and `AnovaKind` promises nothing of numbers.
 fn kind_of(kind: u32) -> AnovaKind {
     match kind {
         0 => AnovaKind::Fisher,
@@ -125,60 +123,26 @@ fn hand_out_one_way(r: OneWayAnovaResult, figures: &mut [f64], means: &mut [f64]
         r.ms_within,
         r.grand_mean,
     ];
-    let group_means = r.group_means;
     lent::put(figures, &numbers);
-    lent::put(means, &group_means);
+    lent::put(means, &r.group_means);
     r.refusal.number
 }
 
-fn hand_out_rows(rows: [Row; 16], means: &mut [f64], sq_devs: &mut [f64]) {
-    let mut all_means = [0.0; base::MOST_GROUPS];
-    let mut all_sq_devs = [0.0; base::MOST_GROUPS];
-    for (g, row) in rows.iter().enumerate() {
-        all_means[g] = row.mean;
-        all_sq_devs[g] = row.sq_dev;
-    }
-    lent::put(means, &all_means);
-    lent::put(sq_devs, &all_sq_devs);
+fn hand_out_rows(rows: [Row; base::MOST_GROUPS], means: &mut [f64], sq_devs: &mut [f64]) {
+    lent::put(means, &rows.map(|row| row.mean));
+    lent::put(sq_devs, &rows.map(|row| row.sq_dev));
 }
 
-// Row g of three lists; the empty row where a list is too short.
-fn row_at(sizes: &[u32], means: &[f64], sq_devs: &[f64], g: usize) -> Row {
-    if sizes.len() <= g {
-        return Row::empty();
-    }
-    if means.len() <= g {
-        return Row::empty();
-    }
-    if sq_devs.len() <= g {
-        return Row::empty();
-    }
-    Row {
-        size: sizes[g],
-        mean: means[g],
-        sq_dev: sq_devs[g],
-    }
-}
-
-fn rows_from(sizes: &[u32], means: &[f64], sq_devs: &[f64]) -> [Row; 16] {
-    [
-        row_at(sizes, means, sq_devs, 0),
-        row_at(sizes, means, sq_devs, 1),
-        row_at(sizes, means, sq_devs, 2),
-        row_at(sizes, means, sq_devs, 3),
-        row_at(sizes, means, sq_devs, 4),
-        row_at(sizes, means, sq_devs, 5),
-        row_at(sizes, means, sq_devs, 6),
-        row_at(sizes, means, sq_devs, 7),
-        row_at(sizes, means, sq_devs, 8),
-        row_at(sizes, means, sq_devs, 9),
-        row_at(sizes, means, sq_devs, 10),
-        row_at(sizes, means, sq_devs, 11),
-        row_at(sizes, means, sq_devs, 12),
-        row_at(sizes, means, sq_devs, 13),
-        row_at(sizes, means, sq_devs, 14),
-        row_at(sizes, means, sq_devs, 15),
-    ]
+// A row for each group; the empty row where one of the three lists is too short.
+fn rows_from(sizes: &[u32], means: &[f64], sq_devs: &[f64]) -> [Row; base::MOST_GROUPS] {
+    std::array::from_fn(|g| match (sizes.get(g), means.get(g), sq_devs.get(g)) {
+        (Some(size), Some(mean), Some(sq_dev)) => Row {
+            size: *size,
+            mean: *mean,
+            sq_dev: *sq_dev,
+        },
+        _ => Row::empty(),
+    })
 }
 
 // A sheet that does not come from load: its readings and its rows are whatever the caller says.
@@ -189,22 +153,18 @@ fn sheet_from(
     sq_devs: &[f64],
     groups: usize,
 ) -> Sheet {
-    let mut places = [0.0; 512];
+    let mut places = [0.0; Sheet::PLACES];
     lent::put(&mut places, readings);
-    let rows = rows_from(sizes, means, sq_devs);
     Sheet {
-        places: places,
-        rows: rows,
-        groups: groups,
+        places,
+        rows: rows_from(sizes, means, sq_devs),
+        groups,
     }
 }
 
 fn hand_out_edit(e: Edit, readings: &mut [f64], means: &mut [f64], sq_devs: &mut [f64]) -> u32 {
-    let sheet = e.sheet;
-    let places = sheet.places;
-    let rows = sheet.rows;
-    lent::put(readings, &places);
-    hand_out_rows(rows, means, sq_devs);
+    lent::put(readings, &e.sheet.places);
+    hand_out_rows(e.sheet.rows, means, sq_devs);
     e.refusal.number
 }
 
@@ -219,15 +179,13 @@ pub extern "C" fn raw_refused(number: u32, figures: &mut [f64], means: &mut [f64
 pub extern "C" fn raw_empty_rows(out: &mut [f64]) {
     let r = Row::empty();
     let s = Sheet::empty_row();
-    let numbers = [r.mean, r.sq_dev, s.mean, s.sq_dev];
-    lent::put(out, &numbers);
+    lent::put(out, &[r.mean, r.sq_dev, s.mean, s.sq_dev]);
 }
 
 #[unsafe(no_mangle)]
 pub extern "C" fn raw_row_of(group: &[f64], out: &mut [f64]) -> u32 {
     let r = Row::of(group);
-    let numbers = [r.mean, r.sq_dev];
-    lent::put(out, &numbers);
+    lent::put(out, &[r.mean, r.sq_dev]);
     r.size
 }
 
@@ -253,8 +211,7 @@ pub extern "C" fn raw_validate(
     sq_devs: &mut [f64],
 ) -> u32 {
     let s = oneway_rows::validate_anova_groups(readings, sizes);
-    let rows = s.rows;
-    hand_out_rows(rows, means, sq_devs);
+    hand_out_rows(s.rows, means, sq_devs);
     s.refusal.number
 }
 
@@ -303,7 +260,8 @@ pub extern "C" fn raw_sheet_load(
     hand_out_edit(Sheet::load(readings, sizes), places, means, sq_devs)
 }
 
-// The edits 1 replace, 2 append and any other number remove, which are the numbers that C hands in, in place: the sheet lies in the three lists, and the one after the edit takes its place there.
+// An edit in place: the sheet lies in the three lists, and the one after the edit takes its place there. 1 replaces, 2 appends, and any other number removes.
+// The match stands here since C hands over a number, and the sheet promises nothing of numbers.
 #[unsafe(no_mangle)]
 pub extern "C" fn raw_sheet_edit(
     places: &mut [f64],
@@ -317,13 +275,12 @@ pub extern "C" fn raw_sheet_edit(
     x: f64,
 ) -> u32 {
     let s = sheet_from(places, sizes, means, sq_devs, groups);
-    if op == 1 {
-        return hand_out_edit(s.replace(group, place, x), places, means, sq_devs);
-    }
-    if op == 2 {
-        return hand_out_edit(s.append(group, x), places, means, sq_devs);
-    }
-    hand_out_edit(s.remove(group, place), places, means, sq_devs)
+    let e = match op {
+        1 => s.replace(group, place, x),
+        2 => s.append(group, x),
+        _ => s.remove(group, place),
+    };
+    hand_out_edit(e, places, means, sq_devs)
 }
 
 #[unsafe(no_mangle)]
@@ -352,8 +309,7 @@ pub extern "C" fn raw_group(readings: &[f64], sizes: &[u32], g: usize, out: &mut
 pub extern "C" fn raw_read_set(set: &[u8], out: &mut [f64]) -> u32 {
     match set::read_set(set) {
         Ok(r) => {
-            let readings = r.readings;
-            lent::put(out, &readings);
+            lent::put(out, &r.readings);
             0
         }
         Err(refusal) => {
@@ -373,45 +329,37 @@ pub extern "C" fn raw_set_anova(
     hand_out_one_way(set::set_anova(set, kind_of(kind)), figures, means)
 }
 
-// ---- lists of a length that the prover is told, so that it need not find it among a long function's facts
-
-fn put_n<const N: usize>(out: &mut [f64], numbers: [f64; N]) {
-    lent::put(out, &numbers);
-}
-
 // ---- tables, two-way analysis and the study
 
 fn hand_out_row(r: AnovaTableRow, out: &mut [f64]) {
-    let numbers = [r.ss, r.df, r.ms, r.f];
-    lent::put(out, &numbers);
+    lent::put(out, &[r.ss, r.df, r.ms, r.f]);
 }
 
 fn hand_out_effects(e: Effects, out: &mut [f64]) {
-    let numbers = [e.ss_a, e.ss_b, e.ss_ab];
-    lent::put(out, &numbers);
+    lent::put(out, &[e.ss_a, e.ss_b, e.ss_ab]);
 }
 
-// A count, where there is a place for it.
-fn put_count(counts: &mut [u64], i: usize, n: u64) {
-    if let Some(place) = counts.get_mut(i) {
-        *place = n;
+// Counts, as many as there are places for.
+fn put_counts(counts: &mut [u64], numbers: &[u64]) {
+    for (place, n) in counts.iter_mut().zip(numbers) {
+        *place = *n;
     }
 }
 
 // A refusal and the counts beside it.
 fn hand_out_counts(refusal: Refusal, a: usize, b: usize, n: usize, counts: &mut [u64]) -> u32 {
-    put_count(counts, 0, refusal.number as u64);
-    put_count(counts, 1, refusal.first);
-    put_count(counts, 2, refusal.second);
-    put_count(counts, 3, a as u64);
-    put_count(counts, 4, b as u64);
-    put_count(counts, 5, n as u64);
+    put_counts(
+        counts,
+        &[
+            refusal.number as u64,
+            refusal.first,
+            refusal.second,
+            a as u64,
+            b as u64,
+            n as u64,
+        ],
+    );
     refusal.number
-}
-
-// The readings of a cell, and 0 behind the last.
-fn count_at(cells: [usize; 36], cell: usize) -> usize {
-    cells.get(cell).copied().unwrap_or(0)
 }
 
 #[unsafe(no_mangle)]
@@ -434,7 +382,7 @@ pub extern "C" fn raw_no_effects(out: &mut [f64]) {
     hand_out_effects(results::no_effects(), out);
 }
 
-// How many readings cell `cell` has.
+// How many readings cell `cell` has, and 0 behind the last.
 #[unsafe(no_mangle)]
 pub extern "C" fn raw_organize(
     values: &[f64],
@@ -446,9 +394,8 @@ pub extern "C" fn raw_organize(
 ) -> usize {
     match twoway_cells::organize_two_way_data(values, factor_a, factor_b, scratch) {
         Ok(d) => {
-            let cells = d.cell_n;
             hand_out_counts(Refusal::none(), d.levels_a, d.levels_b, d.n_total, counts);
-            count_at(cells, cell)
+            d.cell_n.get(cell).copied().unwrap_or(0)
         }
         Err(refusal) => {
             hand_out_counts(refusal, 0, 0, 0, counts);
@@ -469,14 +416,10 @@ pub extern "C" fn raw_cell_table(
     means_b: &mut [f64],
 ) {
     let t = twoway_means::cell_table(readings, counts, a, b);
-    let cell_means = t.cell_means;
-    let all_a = t.marginal_means_a;
-    let all_b = t.marginal_means_b;
-    let numbers = [t.ss_error];
-    lent::put(error, &numbers);
-    put_n(cells, cell_means);
-    put_n(means_a, all_a);
-    put_n(means_b, all_b);
+    lent::put(error, &[t.ss_error]);
+    lent::put(cells, &t.cell_means);
+    lent::put(means_a, &t.marginal_means_a);
+    lent::put(means_b, &t.marginal_means_b);
 }
 
 #[unsafe(no_mangle)]
@@ -510,11 +453,16 @@ pub extern "C" fn raw_type3_ss(
     let e = twoway_type3::type3_ss(values, factor_a, factor_b, a, b, work);
     hand_out_effects(e, out);
     let s = e.skips;
-    put_count(counts, 0, s.solver as u64);
-    put_count(counts, 1, s.inverse as u64);
-    put_count(counts, 2, s.block_a as u64);
-    put_count(counts, 3, s.block_b as u64);
-    put_count(counts, 4, s.block_ab as u64);
+    put_counts(
+        counts,
+        &[
+            s.solver as u64,
+            s.inverse as u64,
+            s.block_a as u64,
+            s.block_b as u64,
+            s.block_ab as u64,
+        ],
+    );
 }
 
 fn hand_out_two_way(
@@ -547,13 +495,10 @@ fn hand_out_two_way(
         r.total.f,
         r.grand_mean,
     ];
-    let cell_means = r.cell_means;
-    let all_a = r.marginal_means_a;
-    let all_b = r.marginal_means_b;
     lent::put(table, &numbers);
-    put_n(cells, cell_means);
-    put_n(means_a, all_a);
-    put_n(means_b, all_b);
+    lent::put(cells, &r.cell_means);
+    lent::put(means_a, &r.marginal_means_a);
+    lent::put(means_b, &r.marginal_means_b);
 }
 
 #[unsafe(no_mangle)]
@@ -618,10 +563,7 @@ fn hand_out_corrections(
 }
 
 fn hand_out_all_corrections(c: Corrections, out: &mut [f64]) {
-    let w = c.sphericity;
-    let gg = c.greenhouse_geisser;
-    let hf = c.huynh_feldt;
-    hand_out_corrections(w, gg, hf, out);
+    hand_out_corrections(c.sphericity, c.greenhouse_geisser, c.huynh_feldt, out);
 }
 
 #[unsafe(no_mangle)]
@@ -634,8 +576,6 @@ pub extern "C" fn raw_rm_table(
     conditions: &mut [f64],
 ) {
     let t = repeated_grid::rm_table(readings, n, k);
-    let subject_means = t.subject_means;
-    let condition_means = t.condition_means;
     let numbers = [
         t.grand_mean,
         t.ss_total,
@@ -644,8 +584,8 @@ pub extern "C" fn raw_rm_table(
         t.ss_error,
     ];
     lent::put(figures, &numbers);
-    put_n(subjects, subject_means);
-    put_n(conditions, condition_means);
+    lent::put(subjects, &t.subject_means);
+    lent::put(conditions, &t.condition_means);
 }
 
 #[unsafe(no_mangle)]
@@ -698,15 +638,15 @@ fn hand_out_repeated(
         r.total.f,
         r.grand_mean,
     ];
-    let w = r.sphericity;
-    let gg = r.greenhouse_geisser;
-    let hf = r.huynh_feldt;
-    let condition_means = r.condition_means;
-    let subject_means = r.subject_means;
     lent::put(table, &numbers);
-    hand_out_corrections(w, gg, hf, corrections);
-    put_n(conditions, condition_means);
-    put_n(subjects, subject_means);
+    hand_out_corrections(
+        r.sphericity,
+        r.greenhouse_geisser,
+        r.huynh_feldt,
+        corrections,
+    );
+    lent::put(conditions, &r.condition_means);
+    lent::put(subjects, &r.subject_means);
     r.refusal.number
 }
 

@@ -15,11 +15,12 @@ fn asked(compute_sphericity: bool, k: usize) -> bool
     compute_sphericity && 3 <= k
 }
 
-// F and its degrees of freedom are three parameters, as in the Rust's call.
+// F and its degrees of freedom are three parameters, which the clause of `compute_sphericity_corrections` names one by one.
+// It hands back zeros and no Option: document 01's record has a mark and zeros, and an Option would be taken apart again at once.
 // The results of sphericity, or zeros where it is not asked for.
 fn corrections(
     readings: &[f64],
-    means: [f64; base::MOST_CONDITIONS],
+    means: &[f64],
     n: usize,
     k: usize,
     wanted: bool,
@@ -27,16 +28,18 @@ fn corrections(
     df_num: f64,
     df_den: f64,
 ) -> Corrections
-    ensures { result ≡ corrections_of readings.now means n k wanted f_stat df_num df_den }
+    ensures { result ≡ corrections_of readings.now means.now n k wanted f_stat df_num df_den }
 {
     if wanted {
-        return repeated_sphericity::compute_sphericity_corrections(
-            readings, &means, n, k, f_stat, df_num, df_den,
-        );
+        repeated_sphericity::compute_sphericity_corrections(
+            readings, means, n, k, f_stat, df_num, df_den,
+        )
+    } else {
+        results::no_corrections()
     }
-    results::no_corrections()
 }
 
+#[tactic(auto, using(float::proofs::Counts::small_count), unfolding(crate::specs::Results::answer_of))]
 pub fn answer(
     readings: &[f64],
     n: usize,
@@ -49,29 +52,33 @@ pub fn answer(
 {
     let n_f = n as f64;
     let k_f = k as f64;
-    let means = t.condition_means;
-    let subject_means = t.subject_means;
     let error = results::plain_row(t.ss_error, (n_f - 1.0) * (k_f - 1.0));
     let within = results::effect_row(t.ss_conditions, k_f - 1.0, error.ms);
     let wanted = asked(compute_sphericity, k);
-    let s = corrections(readings, means, n, k, wanted, within.f, within.df, error.df);
-    let mauchly = s.sphericity;
-    let gg = s.greenhouse_geisser;
-    let hf = s.huynh_feldt;
+    let s = corrections(
+        readings,
+        &t.condition_means,
+        n,
+        k,
+        wanted,
+        within.f,
+        within.df,
+        error.df,
+    );
     RmAnovaResult {
         refusal: Refusal::none(),
         n_subjects: n,
         n_conditions: k,
         within_subjects: within,
         subjects: results::plain_row(t.ss_subjects, n_f - 1.0),
-        error: error,
+        error,
         total: results::plain_row(t.ss_total, n_f * k_f - 1.0),
         has_sphericity: wanted,
-        sphericity: mauchly,
-        greenhouse_geisser: gg,
-        huynh_feldt: hf,
+        sphericity: s.sphericity,
+        greenhouse_geisser: s.greenhouse_geisser,
+        huynh_feldt: s.huynh_feldt,
         grand_mean: t.grand_mean,
-        condition_means: means,
-        subject_means: subject_means,
+        condition_means: t.condition_means,
+        subject_means: t.subject_means,
     }
 }

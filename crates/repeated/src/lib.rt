@@ -12,6 +12,7 @@ use results::{AnovaTableRow, CorrectedResult, SphericityResult};
 
 // The answer of a repeated-measures analysis. Unused places are zero, and so are the three results of sphericity where it was not worked out.
 // Document 01 fixes this record, with the refusal beside zeros and a mark for sphericity.
+// Memory is fixed and nothing is on a heap: the arrays have their counts beside them.
 #[derive(Clone, Copy)]
 pub struct RmAnovaResult {
     pub refusal: Refusal,
@@ -30,17 +31,14 @@ pub struct RmAnovaResult {
     pub subject_means: [f64; base::MOST_SUBJECTS],
 }
 
-// The answer that carries a refusal alone.
+// The answer that carries a refusal alone. No `From<Refusal>`: one private function with one caller; a `From` would be one more public promise.
 #[tactic(auto, unfolding(crate::specs::Results::refused_result, repeated_grid::specs::Table::no_conditions, repeated_grid::specs::Table::no_subjects))]
 fn refused(refusal: Refusal) -> RmAnovaResult
     ensures { result ≡ refused_result refusal }
 {
     let s = results::no_corrections();
-    let mauchly = s.sphericity;
-    let gg = s.greenhouse_geisser;
-    let hf = s.huynh_feldt;
     RmAnovaResult {
-        refusal: refusal,
+        refusal,
         n_subjects: 0,
         n_conditions: 0,
         within_subjects: results::no_row(),
@@ -48,9 +46,9 @@ fn refused(refusal: Refusal) -> RmAnovaResult
         error: results::no_row(),
         total: results::no_row(),
         has_sphericity: false,
-        sphericity: mauchly,
-        greenhouse_geisser: gg,
-        huynh_feldt: hf,
+        sphericity: s.sphericity,
+        greenhouse_geisser: s.greenhouse_geisser,
+        huynh_feldt: s.huynh_feldt,
         grand_mean: 0.0,
         condition_means: [0.0; base::MOST_CONDITIONS],
         subject_means: [0.0; base::MOST_SUBJECTS],
@@ -59,6 +57,7 @@ fn refused(refusal: Refusal) -> RmAnovaResult
 
 // The analysis of rows that lie one after another in `readings`, as many readings in each as `sizes` says.
 // Sphericity is worked out where it is asked for and there are three conditions or more.
+#[tactic(auto, using(base::proofs::Order::answers_err, base::proofs::Order::answers_ok, repeated_checks::proofs::Doors::shown, crate::proofs::Designs::table_there), unfolding(crate::specs::Anova::repeated_measures_anova))]
 pub fn repeated_measures_anova(
     readings: &[f64],
     sizes: &[u32],

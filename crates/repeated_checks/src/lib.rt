@@ -56,6 +56,7 @@ fn subjects_refusal(readings: &[f64], sizes: &[u32], k: u64) -> Result<(), Refus
 }
 
 // The checks of repeated measures, in document 01's order. The rows lie one after another, subject by subject, and `sizes` are their lengths.
+#[tactic(auto, using(base::proofs::Order::ends_there, base::proofs::Order::asks_next), unfolding(crate::specs::Checks::repeated_refusal))]
 pub fn repeated_refusal(readings: &[f64], sizes: &[u32]) -> Result<(), Refusal>
     ensures { result ≡ verdict (repeated_refusal readings.now sizes.now) }
 {

@@ -1,5 +1,5 @@
 // The differences of neighbours: each condition less the next one.
-// Loops go by number where a place of lent memory is set: of what an iterator over `&mut` wrote a proof knows the length alone.
+// Loops go by number, as the loops of the definitions do: the two are read side by side, and a turn of one is a turn of the other.
 ghost use Rattle.std.specs.Prelude.{◌≡◌, ◌+◌, ◌*◌, ◌-◌, ◌≤◌, ◌<◌, length};
 ghost use Rattle.repeated_contrasts.specs.Contrasts.{contrast_row, contrast_rows};
 

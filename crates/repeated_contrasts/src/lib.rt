@@ -1,4 +1,5 @@
 // The covariance of conditions, seen through orthonormal differences of neighbours.
+// Whether the sizes are taken is a `bool`: there is one way not to be, and the definitions say it so.
 #![tactic(auto)]
 
 mod differences;
@@ -42,6 +43,7 @@ fn through_contrasts(subjects: &Subjects, out: &mut [f64]) -> bool
 
 // The covariance of the conditions, seen through orthonormal differences of neighbours: C S C', to the first places of out.
 // `means` are the conditions' means. Sizes that are not taken, or no room: false, and nothing is changed.
+#[tactic(auto, using(crate::proofs::Sizes::laid, crate::proofs::Calls::fitting, crate::proofs::Calls::not_fitting))]
 pub fn contrast_covariance(
     readings: &[f64],
     means: &[f64],
@@ -58,7 +60,8 @@ pub fn contrast_covariance(
             n,
             k,
         };
-        return through_contrasts(&subjects, out);
+        through_contrasts(&subjects, out)
+    } else {
+        false
     }
-    false
 }

@@ -1,9 +1,10 @@
 // The readings of all subjects, and the covariances of all pairs of conditions. They need not be canonical: what is made of them is.
-// Loops go by number where a place of lent memory is set: of what an iterator over `&mut` wrote a proof knows the length alone.
+// Loops go by number, as the loops of the definitions do: the two are read side by side, and a turn of one is a turn of the other.
 ghost use Rattle.std.specs.Prelude.{◌≡◌, ◌+◌, ◌*◌, ◌≤◌, ◌<◌, length};
 ghost use Rattle.base.specs.Limits.{most_subjects, most_conditions};
 ghost use Rattle.repeated_contrasts.specs.Covariance.{covariance, cov_row, cov_rows};
 
+// Not `Grid` of repeated_grid: here two of each are known at least, and the means lie beside the readings.
 // The readings of n subjects under k conditions, subject by subject, and the conditions' means.
 #[derive(Clone, Copy)]
 pub struct Subjects<'a> {

@@ -1,5 +1,5 @@
 // Repeated measures: the table of subjects and conditions.
-// Loops go by number where a place of lent memory is set: of what an iterator over `&mut` wrote a proof knows the length alone.
+// Where places are set from other places, loops go by number: of what `iter_mut().zip(..)` writes a proof knows the length alone.
 #![tactic(auto)]
 
 ghost use Rattle.std.specs.Prelude.{◌≡◌, ◌*◌, ◌<◌, ◌≤◌, length};
@@ -42,6 +42,7 @@ impl<'a> Grid<'a> {
         &self.readings[at..at + self.k]
     }
 
+    #[tactic(auto, using(base::proofs::Loops::step, base::proofs::Loops::ends), unfolding(crate::specs::Table::subject_means, base::specs::Lists::listed, crate::specs::Table::no_subjects))]
     fn subject_means(&self) -> [f64; base::MOST_SUBJECTS]
         ensures { result ≡ subject_means self.now.readings.now self.now.n self.now.k }
     {
@@ -53,6 +54,7 @@ impl<'a> Grid<'a> {
     }
 
     // The sums of all conditions, in one walk over the readings: the sums do not wait for each other as they would one after another.
+    #[tactic(auto, using(base::proofs::Loops::step, base::proofs::Loops::ends, crate::proofs::Rows::row_short, crate::proofs::Columns::added_length), unfolding(crate::specs::Inner::column_sums))]
     fn condition_sums(&self) -> [f64; base::MOST_CONDITIONS]
         ensures { result ≡ column_sums self.now.readings.now self.now.n self.now.k }
     {
@@ -63,6 +65,7 @@ impl<'a> Grid<'a> {
         sums
     }
 
+    #[tactic(auto, using(base::proofs::Loops::step, base::proofs::Loops::ends, crate::proofs::Columns::column_sum, crate::proofs::Rows::fitting), unfolding(crate::specs::Table::condition_means, base::specs::Lists::listed, crate::specs::Table::no_conditions))]
     fn condition_means(&self) -> [f64; base::MOST_CONDITIONS]
         ensures { result ≡ condition_means self.now.readings.now self.now.n self.now.k }
     {
@@ -74,6 +77,7 @@ impl<'a> Grid<'a> {
         out
     }
 
+    #[tactic(auto, unfolding(crate::specs::Table::ss_total, crate::specs::Table::ss_subjects, crate::specs::Table::ss_conditions))]
     fn table(&self) -> RmTable
         ensures { result ≡ table_of self.now.readings.now self.now.n self.now.k }
     {
@@ -87,9 +91,9 @@ impl<'a> Grid<'a> {
         let ss_conditions = (n as f64) * stats::sq_dev(&condition_means[..k], grand_mean);
         RmTable {
             grand_mean: float::canon(grand_mean),
-            subject_means: subject_means,
-            condition_means: condition_means,
-            ss_total: ss_total,
+            subject_means,
+            condition_means,
+            ss_total,
             ss_subjects: float::canon(ss_subjects),
             ss_conditions: float::canon(ss_conditions),
             ss_error: float::canon(ss_total - ss_subjects - ss_conditions),
@@ -98,16 +102,18 @@ impl<'a> Grid<'a> {
 }
 
 // A subject's readings, each added to its condition's sum.
+#[tactic(auto, using(base::proofs::Loops::step, base::proofs::Loops::ends), unfolding(crate::specs::Inner::row_added))]
 fn add_row(sums: &mut [f64], row: &[f64])
     requires { length row.now ≤ length sums.old }
     ensures { sums.new ≡ row_added row.now sums.old }
 {
-    for j in 0..row.len() {
-        sums[j] = sums[j] + row[j];
+    for (j, x) in row.iter().enumerate() {
+        sums[j] += x;
     }
 }
 
-// Zeros, as document 01 has them.
+// Zeros, which the clause of `rm_table` wants where the rows are not taken.
+#[tactic(auto, unfolding(crate::specs::Table::no_subjects, crate::specs::Table::no_conditions))]
 fn no_table() -> RmTable
     ensures { result ≡ no_table }
 {
@@ -123,16 +129,11 @@ fn no_table() -> RmTable
 }
 
 // The table of n rows of k readings each, one after another. Nothing but zeros where there are over 64 rows, over 12 readings in a row, or not n * k readings.
+#[tactic(auto, using(base::proofs::Bounds::product_le, base::proofs::Bounds::then_of, base::proofs::Bounds::else_of), unfolding(crate::specs::Table::rm_table))]
 pub fn rm_table(readings: &[f64], n: usize, k: usize) -> RmTable
     ensures { result ≡ rm_table readings.now n k }
 {
-    if base::MOST_SUBJECTS < n {
-        return no_table();
-    }
-    if base::MOST_CONDITIONS < k {
-        return no_table();
-    }
-    if readings.len() != n * k {
+    if base::MOST_SUBJECTS < n || base::MOST_CONDITIONS < k || readings.len() != n * k {
         return no_table();
     }
     Grid { readings, n, k }.table()

@@ -20,7 +20,7 @@ fn values(csc: [f64; matrix_places::SQUARE], p: usize) -> [f64; matrix_places::M
 fn square_sum(values: &[f64]) -> f64
     ensures { result ≡ square_sum values.now }
 {
-    values.iter().fold(-0.0, |t, value| t + value * value)
+    values.iter().map(|value| value * value).sum()
 }
 
 // The squared sum over p times the sum of squares, unless that is too small or a NaN.
@@ -32,11 +32,13 @@ fn gg_raw(values: &[f64], p: usize) -> f64
     let sum = stats::sum(values);
     let squares = square_sum(values);
     if squares > 1e-15 {
-        return sum * sum / (p as f64 * squares);
+        sum * sum / (p as f64 * squares)
+    } else {
+        1.0
     }
-    1.0
 }
 
+// Not `Subjects` of repeated_contrasts: no readings belong to it, and three conditions are known at least.
 // n subjects and k conditions, of which there are three or more.
 #[derive(Clone, Copy)]
 pub struct Design {
@@ -82,10 +84,7 @@ impl Design {
         ensures { result ≡ epsilon_hf self.n self.k e }
     {
         let hf = self.hf_raw(e);
-        if usable(hf) {
-            return float::least(hf, 1.0);
-        }
-        e
+        if usable(hf) { float::least(hf, 1.0) } else { e }
     }
 }
 

@@ -16,7 +16,7 @@ fn corrected(f_stat: f64, df_num: f64, df_den: f64, epsilon: f64) -> CorrectedRe
     ensures { result ≡ corrected f_stat df_num df_den epsilon }
 {
     CorrectedResult {
-        epsilon: epsilon,
+        epsilon,
         df_num_corrected: float::canon(df_num * epsilon),
         df_den_corrected: float::canon(df_den * epsilon),
         f_statistic: float::canon(f_stat),
@@ -49,6 +49,7 @@ fn corrections_of(
 
 // The corrections of n subjects and k conditions: the readings subject by subject, the conditions' means, and the F with its degrees of freedom.
 // Nothing but zeros where the sizes are not taken.
+#[tactic(auto, using(crate::proofs::Fitted::two_conditions, crate::proofs::Fitted::not_taken_lem, crate::proofs::Fitted::sizes_taken, crate::proofs::Fitted::known), unfolding(crate::specs::Corrections::csc, matrix_eigen::specs::Values::zeros))]
 pub fn compute_sphericity_corrections(
     readings: &[f64],
     means: &[f64],
@@ -65,7 +66,8 @@ pub fn compute_sphericity_corrections(
     }
     let mut csc = [0.0; matrix_places::SQUARE];
     if repeated_contrasts::contrast_covariance(readings, means, n, k, &mut csc) {
-        return corrections_of(Design { n, k }, csc, f_stat, df_num, df_den);
+        corrections_of(Design { n, k }, csc, f_stat, df_num, df_den)
+    } else {
+        results::no_corrections()
     }
-    results::no_corrections()
 }

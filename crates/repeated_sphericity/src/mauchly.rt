@@ -1,5 +1,5 @@
 // Mauchly's W of a matrix of p rows of p places.
-// Loops go by number where the places that are read lie apart.
+// Loops go by number, as the loops of the definitions do: the two are read side by side, and a turn of one is a turn of the other.
 ghost use Rattle.std.specs.Prelude.{◌≡◌, ◌≤◌};
 ghost use Rattle.matrix_places.specs.Places.{most_contrasts};
 ghost use Rattle.repeated_sphericity.specs.Corrections.{sphericity_of};
@@ -53,9 +53,10 @@ impl Csc {
     {
         let mean = self.mean_trace();
         if float::abs(mean) > 1e-15 {
-            return self.det() / float::power(mean, self.p as u32);
+            self.det() / float::power(mean, self.p as u32)
+        } else {
+            1.0
         }
-        1.0
     }
 
     #[tactic(auto, unfolding(crate::specs::Mauchly::mauchly_w))]

@@ -2,7 +2,7 @@
 ghost use Rattle.std.specs.Prelude.{◌≡◌, ◌+◌, ◌*◌, ◌<◌, ◌≤◌};
 
 use crate::kinds;
-use crate::kinds::Kind;
+use crate::kinds::{Kind, Unknown};
 use crate::lines::Out;
 
 // The head's bytes, and the most that a list may have.
@@ -10,10 +10,14 @@ const HEAD: usize = 24;
 
 const MOST: usize = 600;
 
-// The head: the kind, its option, and how many sizes, codes of A, codes of B and readings follow.
+// One of a head's counts is beyond the limit.
+#[derive(Clone, Copy)]
+pub struct TooMany;
+
+// The head: the kind, where its number is one of a kind, its option, and how many sizes, codes of A, codes of B and readings follow.
 #[derive(Clone, Copy)]
 pub struct Head {
-    kind: u32,
+    kind: Result<Kind, Unknown>,
     option: u32,
     ns: usize,
     na: usize,
@@ -26,34 +30,25 @@ pub struct Head {
 }
 
 impl Head {
-    // There is no third answer for a head that is not yet whole: it needs more bytes, as a case does that is cut short.
-    // The head of the case at the front of these bytes; none where one of its counts is beyond the limit. One that is not yet whole is a head with no lists, whose
-    // case needs more bytes.
-    pub fn of(bytes: &[u8]) -> Option<Head> {
+    // The head of the case at the front of these bytes; none where they are not yet a whole head.
+    pub fn of(bytes: &[u8]) -> Result<Option<Head>, TooMany> {
+        if bytes.len() < HEAD {
+            return Ok(None);
+        }
         let mut list = [0u32; 6];
         read(bytes, &mut list);
         let [kind, option, ns, na, nb, nr] = list;
-        if bytes.len() < HEAD {
-            return Some(Head {
-                kind: 0,
-                option: 0,
-                ns: 0,
-                na: 0,
-                nb: 0,
-                nr: 0,
-            });
-        }
         if ns.max(na).max(nb.max(nr)) > MOST as u32 {
-            return None;
+            return Err(TooMany);
         }
-        Some(Head {
-            kind,
+        Ok(Some(Head {
+            kind: Kind::try_from(kind),
             option,
             ns: ns as usize,
             na: na as usize,
             nb: nb as usize,
             nr: nr as usize,
-        })
+        }))
     }
 
     // How many bytes the case has.
@@ -86,7 +81,7 @@ pub fn answer(out: &mut Out, bytes: &[u8], h: Head) {
     read(&bytes[HEAD..behind], &mut codes);
     let mut readings = [0.0; MOST];
     read(&bytes[behind..behind + 8 * h.nr], &mut readings);
-    match Kind::try_from(h.kind) {
+    match h.kind {
         Ok(kind) => kinds::answer(
             out,
             kind,
@@ -102,46 +97,29 @@ pub fn answer(out: &mut Out, bytes: &[u8], h: Head) {
     }
 }
 
-// A number as bytes, the lowest first.
-trait Stored {
-    // How many bytes it has.
-    fn width() -> usize
-        ensures { 0 < result };
-
-    fn of_bytes(bytes: &[u8]) -> Self;
+// A number of N bytes, the lowest first.
+trait Stored<const N: usize>: Copy {
+    fn of_bytes(bytes: [u8; N]) -> Self;
 }
 
-impl Stored for u32 {
-    fn width() -> usize {
-        4
-    }
-
-    fn of_bytes(bytes: &[u8]) -> u32 {
-        match bytes {
-            [a, b, c, d] => u32::from_le_bytes([*a, *b, *c, *d]),
-            _ => 0,
-        }
+impl Stored<4> for u32 {
+    fn of_bytes(bytes: [u8; 4]) -> u32 {
+        u32::from_le_bytes(bytes)
     }
 }
 
-impl Stored for f64 {
-    fn width() -> usize {
-        8
-    }
-
-    fn of_bytes(bytes: &[u8]) -> f64 {
-        match bytes {
-            [a, b, c, d, e, f, g, h] => {
-                float::float_of(u64::from_le_bytes([*a, *b, *c, *d, *e, *f, *g, *h]))
-            }
-            _ => 0.0,
-        }
+impl Stored<8> for f64 {
+    fn of_bytes(bytes: [u8; 8]) -> f64 {
+        float::float_of(u64::from_le_bytes(bytes))
     }
 }
 
 // The numbers that these bytes hold go to the first places of a list.
-fn read<T: Stored + Copy>(bytes: &[u8], list: &mut [T]) {
-    for (place, held) in list.iter_mut().zip(bytes.chunks_exact(T::width())) {
-        *place = T::of_bytes(held);
+fn read<T: Stored<N>, const N: usize>(bytes: &[u8], list: &mut [T])
+    requires { (0 < N) × (N ≤ 8) }
+{
+    let (numbers, _) = bytes.as_chunks::<N>();
+    for (place, number) in list.iter_mut().zip(numbers) {
+        *place = T::of_bytes(*number);
     }
 }

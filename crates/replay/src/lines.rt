@@ -1,5 +1,6 @@
 // How the lines of an answer are put. A form is their text: in it a digit stands for a space and that double, as 16 hex digits, `A`, `B` and `C` for a space
 // and the first, second and third count, and `@` for all doubles, each after a space. What does not fit into the buffer is left out.
+// A form is no `write!`: `text` puts the numbers, and proves their bytes. With `write!` each number would be wrapped in a type whose `Display` calls `text`.
 use base::Refusal;
 use std::io::{Print, Stdout};
 
@@ -48,8 +49,8 @@ impl<'a> Out<'a> {
 
     // A form with the first n of a list of doubles; nothing where there are not as many.
     pub fn firsts(&mut self, form: &[u8], n: usize, doubles: &[f64]) {
-        if n <= doubles.len() {
-            self.form(form, &[], &doubles[..n]);
+        if let Some(first) = doubles.get(..n) {
+            self.form(form, &[], first);
         }
     }
 
@@ -90,9 +91,9 @@ impl<'a> Out<'a> {
         if self.used < least {
             return;
         }
-        if self.used <= self.bytes.len() {
-            let used = self.used;
-            let _ = output.write_all(&self.bytes[..used]);
+        let used = self.used;
+        if let Some(answers) = self.bytes.get(..used) {
+            let _ = output.write_all(answers);
         }
         self.used = 0;
     }

@@ -34,13 +34,11 @@ pub fn report(out: &mut Out, kind: AnovaKind, r: OneWayAnovaResult) {
     if base::MOST_GROUPS < r.n_groups {
         return;
     }
-    let sizes = r.group_sizes;
-    let means = r.group_means;
     out.put(b"sizes");
-    for size in &sizes[..r.n_groups] {
+    for size in &r.group_sizes[..r.n_groups] {
         out.count(*size as u64);
     }
-    out.firsts(b"\nmeans@\n", r.n_groups, &means);
+    out.firsts(b"\nmeans@\n", r.n_groups, &r.group_means);
 }
 
 // The view of the group that the option says.

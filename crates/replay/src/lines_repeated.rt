@@ -8,11 +8,9 @@ pub fn repeated_measures(out: &mut Out, case: &Case) {
     if let Err(refusal) = r.refusal.check() {
         return out.refused(refusal);
     }
-    let conditions = r.condition_means;
-    let subjects = r.subject_means;
     table_lines(out, r);
-    out.firsts(b"condition_means@\n", r.n_conditions, &conditions);
-    out.firsts(b"subject_means@\n", r.n_subjects, &subjects);
+    out.firsts(b"condition_means@\n", r.n_conditions, &r.condition_means);
+    out.firsts(b"subject_means@\n", r.n_subjects, &r.subject_means);
     if r.has_sphericity {
         sphericity_lines(out, r);
     }

@@ -7,6 +7,7 @@ use oneway_rows::Row;
 use sheet::{Edit, Sheet};
 
 // The first readings are loaded, as many as the option says; those behind them are the new readings of the edits. With `levene` there is Levene's report too.
+// `levene` chooses what is printed, and no step of the edits.
 pub fn sheet(out: &mut Out, case: &Case, levene: bool) {
     let n = (case.option as usize).min(case.readings.len());
     let (loaded, new) = case.readings.split_at(n);
@@ -69,14 +70,12 @@ fn call(s: Sheet, op: Op, group: usize, place: usize, x: f64) -> Edit {
 
 // So many rows, so many places, and the reports of Fisher's and Welch's kind.
 fn lines_of(out: &mut Out, s: Sheet, groups: usize, readings: usize) {
-    let list = s.rows;
-    let places = s.places;
-    if groups <= Sheet::ROWS {
-        for row in &list[..groups] {
+    if let Some(rows) = s.rows.get(..groups) {
+        for row in rows {
             out.form(b"rowA01\n", &[row.size as u64], &[row.mean, row.sq_dev]);
         }
     }
-    out.firsts(b"places@\n", readings, &places);
+    out.firsts(b"places@\n", readings, &s.places);
     lines_oneway::report(out, AnovaKind::Fisher, s.report(AnovaKind::Fisher));
     lines_oneway::report(out, AnovaKind::Welch, s.report(AnovaKind::Welch));
 }
@@ -84,23 +83,20 @@ fn lines_of(out: &mut Out, s: Sheet, groups: usize, readings: usize) {
 // A sheet that is not from load. The option is the number of its groups. The sizes are those of the first rows. The first readings are
 // the 16 means, then the 16 sums of squared deviations; then come as many places as the one code of B says, and behind them the edits' new readings.
 pub fn written(out: &mut Out, case: &Case) {
-    match held(case) {
-        None => out.bad_case(),
-        Some((s, new)) => {
-            out.form(b"sheetA\n", &[case.option as u64], &[]);
-            let left = edited(out, s, case.a, new);
-            let places = left.places;
-            lines_of(out, left, Sheet::ROWS, used(&places));
-        }
-    }
+    let Some((s, new)) = held(case) else {
+        return out.bad_case();
+    };
+    out.form(b"sheetA\n", &[case.option as u64], &[]);
+    let left = edited(out, s, case.a, new);
+    lines_of(out, left, Sheet::ROWS, used(&left.places));
 }
 
 // The sheet that a case writes down, and the readings behind it; none where it does not write one.
 fn held<'a>(case: &Case<'a>) -> Option<(Sheet, &'a [f64])> {
-    let n = match case.b {
-        [n] => *n as usize,
-        _ => return None,
+    let [code] = case.b else {
+        return None;
     };
+    let n = *code as usize;
     if Sheet::ROWS < case.sizes.len() || Sheet::PLACES < n || case.readings.len() < ABOVE + n {
         return None;
     }
@@ -108,17 +104,14 @@ fn held<'a>(case: &Case<'a>) -> Option<(Sheet, &'a [f64])> {
     let (places, new) = behind.split_at(n);
     let mut s = Sheet {
         places: [0.0; Sheet::PLACES],
-        rows: [Sheet::empty_row(); Sheet::ROWS],
-        groups: case.option as usize,
-    };
-    s.places[..n].copy_from_slice(places);
-    for (g, row) in s.rows.iter_mut().enumerate() {
-        *row = Row {
+        rows: std::array::from_fn(|g| Row {
             size: case.sizes.get(g).copied().unwrap_or(0),
             mean: above[g],
             sq_dev: above[Sheet::ROWS + g],
-        };
-    }
+        }),
+        groups: case.option as usize,
+    };
+    s.places[..n].copy_from_slice(places);
     Some((s, new))
 }
 

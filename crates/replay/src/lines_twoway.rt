@@ -34,6 +34,7 @@ pub fn study(out: &mut Out, case: &Case) {
     });
 }
 
+// `skips` chooses what is printed, and no step that runs.
 fn two_way_lines(out: &mut Out, r: TwoWayAnovaResult, skips: bool) {
     if let Err(refusal) = r.refusal.check() {
         return out.refused(refusal);
@@ -75,15 +76,12 @@ fn table_lines(out: &mut Out, r: TwoWayAnovaResult) {
 }
 
 fn mean_lines(out: &mut Out, r: TwoWayAnovaResult) {
-    let cells = r.cell_means;
-    let means_a = r.marginal_means_a;
-    let means_b = r.marginal_means_b;
     out.form(b"grand0\n", &[], &[r.grand_mean]);
     if r.levels_a <= base::MOST_LEVELS && r.levels_b <= base::MOST_LEVELS {
-        out.firsts(b"cells@\n", r.levels_a * r.levels_b, &cells);
+        out.firsts(b"cells@\n", r.levels_a * r.levels_b, &r.cell_means);
     }
-    out.firsts(b"margins_a@\n", r.levels_a, &means_a);
-    out.firsts(b"margins_b@\n", r.levels_b, &means_b);
+    out.firsts(b"margins_a@\n", r.levels_a, &r.marginal_means_a);
+    out.firsts(b"margins_b@\n", r.levels_b, &r.marginal_means_b);
 }
 
 fn study_lines(out: &mut Out, r: GaugeStudy) {

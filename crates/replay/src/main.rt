@@ -13,8 +13,8 @@ mod lines_twoway;
 mod stream;
 
 fn main(rt: HostRuntime) {
-    let mut buffer = [0u8; 65536];
-    let mut answers = [0u8; 65536];
+    let mut buffer = [0u8; stream::ROOM];
+    let mut answers = [0u8; stream::ROOM];
     stream::run(
         rt.stdin(),
         rt.stdout(),

@@ -3,13 +3,16 @@ ghost use Rattle.std.specs.Prelude.{length, IfOk};
 ghost use Rattle.replay.specs.Streams.{Inside};
 
 use crate::cases;
-use crate::cases::Head;
+use crate::cases::{Head, TooMany};
 use crate::lines::Out;
 use std::io::{Read, Stdin, Stdout};
 
+// The bytes of each buffer.
+pub const ROOM: usize = 65536;
+
 // How much of the answers' buffer may be used before it is written. Every answer fits into the other half: the longest is that of a sheet, with 200 edits of three
 // numbers, 512 places, 16 rows and three reports, and stays below 25,000 bytes.
-const HALF: usize = 32768;
+const HALF: usize = ROOM / 2;
 
 // The buffer's bytes from..to are read and not yet answered.
 #[derive(Clone, Copy)]
@@ -23,6 +26,12 @@ pub struct Held {
 pub enum End {
     Whole,
     Broken,
+}
+
+impl From<TooMany> for End {
+    fn from(_: TooMany) -> End {
+        End::Broken
+    }
 }
 
 // Nothing shows that an input ends, so the turns are counted down, from a number that no run uses up.
@@ -53,10 +62,10 @@ fn turn(
     ensures { IfOk result (λ next. Inside next (length buffer.old)) }
 {
     let part = &buffer[held.from..held.to];
-    let h = Head::of(part).ok_or(End::Broken)?;
-    if part.len() < h.length() {
+    let whole = Head::of(part)?.filter(|h| h.length() <= part.len());
+    let Some(h) = whole else {
         return read_on(input, buffer, held);
-    }
+    };
     cases::answer(out, part, h);
     out.write(output, HALF);
     Ok(Held {

@@ -11,7 +11,7 @@ ghost use Rattle.results.specs.Corrections.{no_corrected, no_corrections};
 use base::Refusal;
 
 // The answer of a one-way analysis. What Welch's has not is zero beside a mark that says so. Document 01 ("Refusal numbers", "Forms that must change") fixes this record, with a refusal
-// beside zeros and marks in place of Option; the edits `refused--..` change single fields of it.
+// beside zeros and marks in place of Option; the edits `refused--..` change single fields of it. No `From<Refusal>` and no `Default` makes it: those edits name the function.
 // Memory is fixed and nothing is on a heap: the arrays have their counts beside them.
 #[derive(Clone, Copy)]
 pub struct OneWayAnovaResult {

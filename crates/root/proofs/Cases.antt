@@ -8,32 +8,36 @@ use mathlib.Core.Bool.{Bool, true, false, not, ◌&&◌, false≢true, true≢fa
 use lib.IntN.{ℤ, pos}
 use lib.Dec.{T, ltb, leb, eqb, ltb→lt}
 use lib.Pow.{pow-add, pow_pos}
-use lib.Ieee.{Float, nan, inf, fin, binary64, up, down, size, lt, eq, ne, fits, nan_bits, of_bits, to_bits}
+use lib.Ieee.{Float, nan, inf, fin, binary64, up, down, size, lt, eq, is_nan, fits, nan_bits, of_bits, to_bits}
 use lib.Ieee.Digits.{size-le}
 use lib.Ieee.Fits.{and_r, down_pos, up_pos, kept-lt}
 use lib.Ieee.Bits.{of_bits-to_bits}
 use borrow.Author.Tests.{ltb-true, ltb-false, eqb-true}
 use Rattle.float.specs.Words.{bits, plus_zero}
-use Rattle.float.proofs.Tested.{is_tested}
+use Rattle.float.proofs.Nans.{is_nan_lem}
+use Rattle.float.proofs.Tested.{handed_out}
 use Rattle.float.proofs.Patterns.{pattern_number}
 use Rattle.root.specs.Root.{sqrt_of, root_bits}
 use Rattle.root.specs.Nearest.{infinity}
 use Rattle.root.proofs.Scaled.{root_bits_is, long_range, exponent_range}
 
 -- A NaN.
-pub root_nan : (x : Float) → ne x x ≡ true → nan ≡ sqrt_of x
+pub root_nan : (x : Float) → is_nan x ≡ true → bits 0x7FF8000000000000 ≡ sqrt_of x
 unfolding sqrt_of
-root_nan x h = ap sqrt_of (is_tested x h)
+root_nan x h = handed_out ∙ ap sqrt_of (is_nan_lem x h)
 
 -- A number below zero.
-pub root_below : (x : Float) → lt x plus_zero ≡ true → nan ≡ sqrt_of x
+below : (x : Float) → lt x plus_zero ≡ true → nan ≡ sqrt_of x
 unfolding sqrt_of lt of_bits
-root_below nan h = refl
-root_below (inf true) h = refl
-root_below (inf false) h = absurd (false≢true h)
-root_below (fin true zero e) h = absurd (omega (arith, ltb-true 0 (0 * up e * 1 + 0 * 1 * down e) h))
-root_below (fin true (suc m) e) h = refl
-root_below (fin false m e) h = absurd (omega (arith, ltb-true (m * up e * 1) (0 * 1 * down e) h))
+below nan h = refl
+below (inf true) h = refl
+below (inf false) h = absurd (false≢true h)
+below (fin true zero e) h = absurd (omega (arith, ltb-true 0 (0 * up e * 1 + 0 * 1 * down e) h))
+below (fin true (suc m) e) h = refl
+below (fin false m e) h = absurd (omega (arith, ltb-true (m * up e * 1) (0 * 1 * down e) h))
+
+pub root_below : (x : Float) → lt x plus_zero ≡ true → bits 0x7FF8000000000000 ≡ sqrt_of x
+root_below x h = handed_out ∙ below x h
 
 -- A zero of either sign.
 and_left : (a b : Bool) → (a && b) ≡ true → a ≡ true
@@ -78,8 +82,8 @@ unfolding eq of_bits
 zero_level true e = rw (zero-mul (up e), zero-mul (down e))
 zero_level false e = rw (zero-mul (up e), zero-mul (down e))
 
-pub is_above : (x : Float) → ne x x ≡ false → lt x plus_zero ≡ false → eq x plus_zero ≡ false → (to_bits binary64 x ≡ infinity → ⊥) → Above x
-unfolding ne lt eq of_bits to_bits
+pub is_above : (x : Float) → is_nan x ≡ false → lt x plus_zero ≡ false → eq x plus_zero ≡ false → (to_bits binary64 x ≡ infinity → ⊥) → Above x
+unfolding lt eq of_bits to_bits is_nan
 is_above nan a b c d = absurd (true≢false a)
 is_above (inf true) a b c d = absurd (true≢false b)
 is_above (inf false) a b c d = absurd (d refl)

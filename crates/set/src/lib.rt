@@ -1,5 +1,5 @@
 // The reading set: one-way data as bytes. First the contents, the group count and each group's size in two bytes; then the readings, eight bytes each. All little endian.
-// Loops go by number where a place of lent memory is set: of what an iterator over `&mut` wrote a proof knows the length alone.
+// Where places are set from other places, loops go by number: of what `iter_mut().zip(..)` writes a proof knows the length alone.
 #![tactic(auto)]
 
 ghost use Rattle.std.specs.Prelude.{◌≡◌, map, ◌≤◌, ◌*◌, length};
@@ -27,6 +27,7 @@ pub struct ReadingSet {
 }
 
 // The sizes in a set's contents, and how many readings they add up to.
+// Memory is fixed and nothing is on a heap: the sizes stand in an array. `total` is their sum and no length: how many they are, the caller knows.
 #[derive(Clone, Copy)]
 pub struct Contents {
     pub sizes: [u32; base::MOST_GROUPS],
@@ -34,6 +35,7 @@ pub struct Contents {
 }
 
 // The k sizes at the front of `bytes`.
+#[tactic(auto, using(base::proofs::Cuts::total_done, base::proofs::Fills::fill_starts, base::proofs::Fills::fill_step, base::proofs::Fills::fill_ends, base::proofs::Words::length_words, crate::proofs::Littles::chunks_are, crate::proofs::Littles::among, crate::proofs::Littles::pair_read, crate::proofs::Littles::numbers_turn), unfolding(results::specs::Results::no_sizes))]
 fn sizes_in(bytes: &[u8], k: usize) -> Contents
     requires { (k ≤ most_groups) × (k * 2 ≤ length bytes.now) }
     ensures { result ≡ contents_of (map little (words 2 k bytes.now)) }
@@ -50,6 +52,7 @@ fn sizes_in(bytes: &[u8], k: usize) -> Contents
 }
 
 // The n readings at the front of `bytes`, and zeros behind them. A NaN's pattern is met without an undefined step.
+#[tactic(auto, using(base::proofs::Fills::fill_starts, base::proofs::Fills::fill_step, base::proofs::Fills::fill_ends, base::proofs::Words::length_words, crate::proofs::Littles::chunks_are, crate::proofs::Littles::among, crate::proofs::Littles::eight_read), unfolding(crate::specs::Sets::no_readings))]
 fn readings_in(bytes: &[u8], n: usize) -> [f64; base::MOST_READINGS]
     requires { (n ≤ most_readings) × (n * 8 ≤ length bytes.now) }
     ensures { result ≡ body_of (map reading (words 8 n bytes.now)) }
@@ -63,6 +66,7 @@ fn readings_in(bytes: &[u8], n: usize) -> [f64; base::MOST_READINGS]
 }
 
 // The sizes and readings of a set, behind its checks in document 01's order, up to one-way's own.
+#[tactic(auto, using(base::proofs::Parts::rest_part, crate::proofs::Littles::two_first, crate::proofs::Heads::counted, crate::proofs::Heads::fails, crate::proofs::Heads::cut_off, crate::proofs::Heads::too_many_groups, crate::proofs::Heads::contents_short, crate::proofs::Heads::too_many_readings, crate::proofs::Heads::wrong_length, crate::proofs::Heads::nothing_wrong, crate::proofs::Heads::body_fits, crate::proofs::Heads::set_made))]
 pub fn read_set(set: &[u8]) -> Result<ReadingSet, Refusal>
     ensures { result ≡ read_set set.now }
 {
@@ -96,15 +100,12 @@ pub fn read_set(set: &[u8]) -> Result<ReadingSet, Refusal>
 }
 
 // The one-way analysis of a set.
+#[tactic(auto, using(crate::proofs::Heads::set_refused, crate::proofs::Heads::groups_fit, crate::proofs::Heads::readings_fit, crate::proofs::Heads::analysed))]
 pub fn set_anova(set: &[u8], kind: AnovaKind) -> OneWayAnovaResult
     ensures { result ≡ set_anova kind set.now }
 {
     match read_set(set) {
-        Ok(s) => {
-            let sizes = s.sizes;
-            let readings = s.readings;
-            oneway::one_way_anova(&readings[..s.n_total], &sizes[..s.n_groups], kind)
-        }
+        Ok(s) => oneway::one_way_anova(&s.readings[..s.n_total], &s.sizes[..s.n_groups], kind),
         Err(refusal) => results::refused(refusal),
     }
 }

@@ -42,6 +42,7 @@ impl Sheet {
     }
 
     // The sheet of groups that pass one-way's checks; the zero sheet where they do not.
+    #[tactic(auto, using(crate::proofs::Loaded::load_refused, crate::proofs::Loaded::load_made), unfolding(crate::specs::Sheets::zero_places))]
     pub fn load(readings: &[f64], sizes: &[u32]) -> Edit
         ensures { result ≡ load_of readings.now sizes.now }
     {
@@ -73,16 +74,17 @@ impl Sheet {
 
     // Each edit writes its answer out: the edits `Sheet.replace--..`, `Sheet.append--..` and `Sheet.remove--..` change single lines of it.
     // x in place of a reading.
+    #[tactic(auto, using(base::proofs::Order::was_passed, crate::proofs::Made::edit_refused, crate::proofs::Made::replace_told, crate::proofs::Made::begins, crate::proofs::Made::finishes, crate::proofs::Made::spot, crate::proofs::Made::replace_made))]
     pub fn replace(self, group: usize, place: usize, x: f64) -> Edit
         ensures { result ≡ call_of (Call.Replace group place x) self }
     {
-        if let Err(refusal) = checks::replace_refusal(self.rows, self.groups, group, place, x) {
+        if let Err(refusal) = checks::replace_refusal(&self, group, place, x) {
             return Edit {
                 refusal,
                 sheet: self,
             };
         }
-        let (at, end) = checks::span(&self.rows, group);
+        let (at, end) = checks::span(&self, group);
         let mut replaced = self;
         replaced.places[at + place] = x;
         replaced.rows[group] = Row::of(&replaced.places[at..end]);
@@ -93,17 +95,18 @@ impl Sheet {
     }
 
     // x at the group's end.
+    #[tactic(auto, using(base::proofs::Order::was_passed, crate::proofs::Made::edit_refused, crate::proofs::Made::append_told, crate::proofs::Made::begins, crate::proofs::Made::finishes, crate::proofs::Made::spot, crate::proofs::Made::uses, crate::proofs::Made::append_made))]
     pub fn append(self, group: usize, x: f64) -> Edit
         ensures { result ≡ call_of (Call.Append group x) self }
     {
-        if let Err(refusal) = checks::append_refusal(self.rows, self.groups, group, x) {
+        if let Err(refusal) = checks::append_refusal(&self, group, x) {
             return Edit {
                 refusal,
                 sheet: self,
             };
         }
-        let (at, end) = checks::span(&self.rows, group);
-        let used = checks::ahead(&self.rows, self.groups);
+        let (at, end) = checks::span(&self, group);
+        let used = checks::ahead(&self, self.groups);
         let mut appended = self;
         places::insert(&mut appended.places, end, used, x);
         appended.rows[group] = Row::of(&appended.places[at..end + 1]);
@@ -114,17 +117,18 @@ impl Sheet {
     }
 
     // A reading less.
+    #[tactic(auto, using(base::proofs::Order::was_passed, crate::proofs::Made::edit_refused, crate::proofs::Made::remove_told, crate::proofs::Made::begins, crate::proofs::Made::finishes, crate::proofs::Made::spot, crate::proofs::Made::uses, crate::proofs::Made::remove_made))]
     pub fn remove(self, group: usize, place: usize) -> Edit
         ensures { result ≡ call_of (Call.Remove group place) self }
     {
-        if let Err(refusal) = checks::remove_refusal(self.rows, self.groups, group, place) {
+        if let Err(refusal) = checks::remove_refusal(&self, group, place) {
             return Edit {
                 refusal,
                 sheet: self,
             };
         }
-        let (at, end) = checks::span(&self.rows, group);
-        let used = checks::ahead(&self.rows, self.groups);
+        let (at, end) = checks::span(&self, group);
+        let used = checks::ahead(&self, self.groups);
         let mut removed = self;
         places::delete(&mut removed.places, at + place, used);
         removed.rows[group] = Row::of(&removed.places[at..end - 1]);
@@ -135,11 +139,11 @@ impl Sheet {
     }
 
     // Fisher's, Welch's or Levene's analysis of the sheet, from its rows as they stand.
+    #[tactic(auto, using(crate::proofs::Reported::report_fits, crate::proofs::Reported::report_made))]
     pub fn report(self, kind: AnovaKind) -> OneWayAnovaResult
         ensures { result ≡ report_of kind self }
     {
-        let used = checks::used(self.rows, self.groups);
-        let places = self.places;
-        oneway::report(self.rows, self.groups, &places[..used], kind)
+        let used = checks::used(&self);
+        oneway::report(self.rows, self.groups, &self.places[..used], kind)
     }
 }

@@ -8,6 +8,7 @@ ghost use Rattle.speed_repeated.specs.Calls.{timed};
 const PLACES: usize = 8;
 
 // One analysis, with sphericity where `sphericity` is 1: 0 and its numbers, or the number of a refusal and `out` as it was.
+#[tactic(auto, using(base::proofs::Order::was_passed, base::proofs::Order::was_refused, crate::proofs::Laid::accepted, crate::proofs::Laid::refused), unfolding(crate::specs::Calls::timed))]
 #[unsafe(no_mangle)]
 pub extern "C" fn speed_repeated(
     readings: &[f64],
@@ -21,10 +22,9 @@ pub extern "C" fn speed_repeated(
         return 12;
     }
     let r = repeated::repeated_measures_anova(readings, sizes, sphericity == 1);
-    // The number itself is what C gets.
-    let number = r.refusal.number;
-    if number != 0 {
-        return number;
+    // C gets the refusal's number.
+    if let Err(refusal) = r.refusal.check() {
+        return refusal.number;
     }
     let numbers = [
         r.within_subjects.f,

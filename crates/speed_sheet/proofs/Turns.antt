@@ -1,11 +1,10 @@
 -- Laws of a history of edits: an edit by its number, a turn, and the two ends of the call.
-use mathlib.Core.Path.{◌≡◌, refl}
-use mathlib.Core.List.{List, [], ◌∷◌}
-use Prim.Native.Nat.{ℕ, zero, suc, ◌+◌, ◌*◌, ◌<◌}
-use native.Mathlib.Omega.{arith}
+use mathlib.Core.Path.{◌≡◌}
+use mathlib.Core.List.{List}
+use Prim.Native.Nat.{ℕ, ◌+◌, ◌*◌}
 use borrow.Author.Tests.{eq-eqb, ne_eqb}
 use lib.Ieee.{Float}
-use lib.ListN.{length, get_or, set}
+use lib.ListN.{get_or, set}
 use Rattle.float.specs.Words.{plus_zero}
 use Rattle.oneway.specs.declared.AnovaKind.{AnovaKind}
 use Rattle.results.specs.declared.OneWayAnovaResult.{OneWayAnovaResult}
@@ -14,12 +13,6 @@ use Rattle.sheet.specs.declared.Edit.{Edit}
 use Rattle.sheet.specs.Calls.{call_of, called, report_of}
 use Rattle.sheet.specs.Calls.Call.{Replace, Append, Remove}
 use Rattle.speed_sheet.specs.Histories.{call_with, reported, reports_of, edits}
-
--- what a list holds at a place that it has, whatever stands for a missing one
-pub there : {A : Type 0} (l : List A) (i : ℕ) (d e : A) → i < length l → get_or l i d ≡ get_or l i e
-there [] i d e h = absurd (omega arith)
-there (x ∷ l) zero d e h = refl
-there (x ∷ l) (suc i) d e h = there l i d e (omega arith)
 
 module _ (op g p : ℕ) (x : Float) (s : Sheet) (e : Edit) where
   pub replaces : op ≡ 1 → e ≡ call_of (Replace g p x) s → e.sheet ≡ called s (call_with op g p x)

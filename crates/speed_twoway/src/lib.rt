@@ -8,6 +8,7 @@ ghost use Rattle.speed_twoway.specs.Calls.{timed};
 const PLACES: usize = 6;
 
 // One analysis: 0, its numbers, and the scratch wiped as `two_way_anova` leaves it; or the number of a refusal, and `out` and the scratch as they were.
+#[tactic(auto, unfolding(crate::specs::Calls::timed))]
 #[unsafe(no_mangle)]
 pub extern "C" fn speed_two_way(
     values: &[f64],
@@ -22,10 +23,9 @@ pub extern "C" fn speed_two_way(
         return 12;
     }
     let r = twoway::two_way_anova(values, factor_a, factor_b, scratch);
-    // The number itself is what C gets.
-    let number = r.refusal.number;
-    if number != 0 {
-        return number;
+    // C gets the refusal's number.
+    if let Err(refusal) = r.refusal.check() {
+        return refusal.number;
     }
     let numbers = [
         r.factor_a.f,

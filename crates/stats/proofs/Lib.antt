@@ -3,3 +3,4 @@ pub mod Finding
 pub mod Passed
 pub mod Squares
 pub mod Sought
+pub mod Chains

@@ -31,13 +31,14 @@ pub fn sq_dev(readings: &[f64], mean: f64) -> f64
 }
 
 // Whether one of the readings is a NaN. All of them are looked at, so that the compiler can take several at a time.
+#[tactic(auto, using(crate::proofs::Finding::found_here, crate::proofs::Finding::found_further, crate::proofs::Finding::found_told))]
 pub fn has_nan(readings: &[f64]) -> bool
     ensures { result ≡ has_nan readings.now }
 {
     let mut found = false;
     // Not a fold over `|`: it takes 7 in 100 more time.
     for x in readings {
-        if *x != *x {
+        if x.is_nan() {
             found = true;
         }
     }
@@ -58,6 +59,7 @@ fn count_refusal(n: usize, fewest: usize, too_few: Refusal) -> Result<(), Refusa
 }
 
 // The mean, or the refusal that so many readings meet.
+#[tactic(auto, using(base::proofs::Order::was_passed, float::proofs::Counts::small_count, crate::proofs::Passed::mean_passed, crate::proofs::Passed::mean_told, crate::proofs::Passed::check_refuses, crate::proofs::Passed::check_passes))]
 fn mean_found(readings: &[f64]) -> Result<f64, Refusal>
     ensures { result ≡ judged (mean_refusal (length readings.now)) (mean_of readings.now) }
 {
@@ -67,6 +69,7 @@ fn mean_found(readings: &[f64]) -> Result<f64, Refusal>
 }
 
 // The variance, or the refusal that so many readings meet.
+#[tactic(auto, using(base::proofs::Order::was_passed, float::proofs::Counts::small_count, crate::proofs::Passed::variance_passed, crate::proofs::Passed::variance_told, crate::proofs::Passed::check_refuses, crate::proofs::Passed::check_passes))]
 fn variance_found(readings: &[f64]) -> Result<f64, Refusal>
     ensures { result ≡ judged (variance_refusal (length readings.now)) (variance_of readings.now) }
 {

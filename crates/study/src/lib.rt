@@ -25,7 +25,7 @@ pub struct GaugeStudy {
     pub component_total: f64,
 }
 
-// The answer that carries a refusal alone.
+// The answer that carries a refusal alone. A private function is enough: a `From<Refusal>` would be one more public promise.
 fn refused(refusal: Refusal) -> GaugeStudy
     ensures { result ≡ refused_study refusal }
 {
@@ -51,13 +51,15 @@ fn balance_refusal(counts: &[usize]) -> Result<(), Refusal>
     let first = counts[0];
     let other = twoway_balanced::other_count(counts);
     if other == first {
-        return Ok(());
+        Ok(())
+    } else {
+        Err(Refusal::new(10, first as u64, other as u64))
     }
-    Err(Refusal::new(10, first as u64, other as u64))
 }
 
-// One component: what a mean square has more than another, over n readings; +0.0 where it has less. The test is of the difference: a quotient below zero may round to -0.0, which is not below zero.
-#[tactic(auto, unfolding(crate::specs::Study::component_of))]
+// One component: what a mean square has more than another, over n readings; +0.0 where it has less. The test is of the difference: a quotient below zero
+// may round to -0.0, which is not below zero.
+#[tactic(auto, using(float::proofs::Counts::small_count), unfolding(crate::specs::Study::component_of))]
 fn component(more: f64, less: f64, n: usize) -> f64
     requires { n ≤ most_levels * most_readings }
     ensures { result ≡ component_of more less n }
@@ -65,12 +67,14 @@ fn component(more: f64, less: f64, n: usize) -> f64
     let difference = more - less;
     let quotient = difference / (n as f64);
     if difference < 0.0 {
-        return 0.0;
+        0.0
+    } else {
+        float::canon(quotient)
     }
-    float::canon(quotient)
 }
 
 // The components, from the mean squares of a table with r readings in each cell.
+#[tactic(auto, using(base::proofs::Bounds::product_le), unfolding(crate::specs::Study::components_of))]
 fn components(t: TwoWayAnovaResult, r: usize) -> GaugeStudy
     requires { (t.levels_a ≤ most_levels) × ((t.levels_b ≤ most_levels) × (r ≤ most_readings)) }
     ensures { result ≡ components_of t r }

@@ -1,43 +1,24 @@
--- The loop that counts the decimal digits of a number.
-use mathlib.Core.Path.{◌≡◌, refl, ap}
-use Prim.Native.Nat.{ℕ, zero, suc, ◌+◌, ◌-◌, ◌/◌, ◌^◌, ◌<◌, ◌≤◌}
-use native.Mathlib.Nat.{pow-suc}
+-- A number has one decimal digit more than the whole part of its logarithm.
+use mathlib.Core.Path.{◌≡◌, sym, ap}
+use Prim.Native.Nat.{ℕ, zero, suc, ◌+◌, ◌*◌, ◌/◌, ◌^◌, ◌<◌, ◌≤◌, max}
+use native.Mathlib.Nat.{pow-suc, pow-zero}
 use native.Mathlib.Omega.{arith}
 use borrow.Author.Tests.{lt-ltb, le-ltb}
 use Rattle.text.specs.Numbers.{width_in, width_of}
 
--- `count` digits of n are counted, and `rest` is n without those behind the first of them: what is left to count gives the whole
-pub record Counting (n rest count : ℕ) : Type 0 where
-  pub few : count ≤ 20
-  pub small : rest < 10 ^ suc (20 - count)
-  pub left : count + width_in (20 - count) rest ≡ suc (width_of n)
+above_zero : (w : ℕ) → 1 ≤ 10 ^ w
+above_zero zero = omega (arith, pow-zero 10)
+above_zero (suc w) = omega (arith, pow-suc 10 w, above_zero w)
 
-pub starts : (n : ℕ) → n < 2 ^ 64 → Counting n n 1
-unfolding width_of
-starts n h = record { few = omega arith; small = omega arith; left = omega arith }
-
--- with k digits more to come at most
-more : (k rest : ℕ) → rest < 10 ^ suc k → 10 ≤ rest → (0 < k) × (rest / 10 < 10 ^ k) × (width_in k rest ≡ suc (width_in (k - 1) (rest / 10)))
+in_log : (k w n : ℕ) → w ≤ k → 10 ^ w ≤ n → n < 10 * 10 ^ w → width_in k n ≡ suc w
 unfolding width_in
-more zero rest s h = absurd (omega arith)
-more (suc k) rest s h = (omega arith, omega (arith, pow-suc 10 (suc k)), let e : suc k - 1 ≡ k = omega arith in rw (le-ltb rest 10 h, e))
+in_log zero w n f p q = let z : w ≡ 0 = omega arith in ap suc (sym z)
+in_log (suc k) zero n f p q = rw (lt-ltb n 10 (omega (arith, pow-zero 10)))
+in_log (suc k) (suc w) n f p q =
+    rw (le-ltb n 10 (omega (arith, pow-suc 10 w, above_zero w)), in_log k w (n / 10) (omega arith) (omega (arith, pow-suc 10 w)) (omega (arith, pow-suc 10 w)))
 
-pub counts : (n rest count : ℕ) → Counting n rest count → 10 ≤ rest → Counting n (rest / 10) (count + 1)
-counts n rest count k h =
-    let m = more (20 - count) rest k.small h in
-    let e : suc (20 - (count + 1)) ≡ 20 - count = omega (arith, m.0) in
-    let d : 20 - count - 1 ≡ 20 - (count + 1) = omega arith in
-    record {
-      few = omega (arith, m.0);
-      small = rw e m.1;
-      left = omega (arith, k.left, m.2, ap (λ (j : ℕ). width_in j (rest / 10)) d);
-    }
-
--- the first digit is counted already
-last : (k rest : ℕ) → rest < 10 → width_in k rest ≡ 1
-unfolding width_in
-last zero rest h = refl
-last (suc k) rest h = rw (lt-ltb rest 10 h)
-
-pub stops : (n rest count : ℕ) → Counting n rest count → rest < 10 → count ≡ width_of n
-stops n rest count k h = omega (arith, k.left, last (20 - count) rest h)
+-- 0 has one digit, as 1 has
+pub width_log : (n w : ℕ) → w < 20 → 10 ^ w ≤ max n 1 → max n 1 < 10 * 10 ^ w → w + 1 ≡ width_of n
+unfolding width_of width_in
+width_log zero w f p q = omega (arith, in_log 19 w 1 (omega arith) p q)
+width_log (suc n) w f p q = omega (arith, in_log 19 w (suc n) (omega arith) (omega arith) (omega arith))

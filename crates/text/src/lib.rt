@@ -1,4 +1,5 @@
 // Numbers as text, and text in lent memory.
+// No `Display` with `write!`: the bytes that a call puts, and the place behind them, are its clause, and nothing is on a heap.
 #![tactic(auto)]
 
 ghost use Rattle.std.specs.Prelude.{◌≡◌, ◌<◌, ◌≤◌, length};
@@ -11,10 +12,7 @@ ghost use Rattle.text.specs.Put.{put_of};
 pub fn put(out: &mut [u8], at: usize, src: &[u8]) -> usize
     ensures { (out.new, result) ≡ put_of out.old at src.now }
 {
-    if at > out.len() {
-        return at;
-    }
-    if src.len() > out.len() - at {
+    if at > out.len() || src.len() > out.len() - at {
         return at;
     }
     let end = at + src.len();
@@ -33,6 +31,7 @@ pub fn put_hex(out: &mut [u8], at: usize, x: u64) -> usize
 }
 
 // Puts the decimal digits of n, with no zeros in front: 0 is `0`.
+#[tactic(auto, using(crate::proofs::Numerals::width_fits), unfolding(crate::specs::Numbers::numeral_of))]
 pub fn put_decimal(out: &mut [u8], at: usize, n: u64) -> usize
     ensures { (out.new, result) ≡ put_of out.old at (numeral_of n) }
 {
@@ -48,12 +47,14 @@ fn digit(d: u64) -> u8
     ensures { result ≡ glyph d }
 {
     if d < 10 {
-        return b'0' + (d as u8);
+        b'0' + (d as u8)
+    } else {
+        b'A' - 10 + (d as u8)
     }
-    b'A' - 10 + (d as u8)
 }
 
 // The lowest digits of n in a base, as many as out has places, the most significant first.
+#[tactic(auto, using(crate::proofs::Fills::fill_starts, crate::proofs::Fills::fill_turn, crate::proofs::Fills::fill_ends))]
 fn fill(out: &mut [u8], base: u64, n: u64)
     requires { (0 < base) × (base ≤ 16) }
     ensures { out.new ≡ digits base (length out.old) n }
@@ -67,14 +68,9 @@ fn fill(out: &mut [u8], base: u64, n: u64)
 }
 
 // How many decimal digits n has.
+#[tactic(auto, using(crate::proofs::Widths::width_log))]
 fn width(n: u64) -> usize
     ensures { result ≡ width_of n }
 {
-    let mut rest = n;
-    let mut count = 1;
-    while rest >= 10 {
-        rest /= 10;
-        count += 1;
-    }
-    count
+    n.max(1).ilog10() as usize + 1
 }

@@ -15,6 +15,7 @@ use results::{AnovaTableRow, Skips};
 // The answer of a two-way analysis. Cell (i, j) stands at place i * levels_b + j; unused places are zero. A coefficient that was skipped
 // is 0 because the matrix gave out: `skips` counts them, and is all zeros in a balanced design.
 // Document 01 fixes this record, with the refusal beside zeros; the theorems `refused_none` and `skips_told` speak of both.
+// Memory is fixed and nothing is on a heap: the arrays have their counts beside them.
 #[derive(Clone, Copy)]
 pub struct TwoWayAnovaResult {
     pub refusal: Refusal,
@@ -33,7 +34,8 @@ pub struct TwoWayAnovaResult {
     pub skips: Skips,
 }
 
-// The answer that carries a refusal alone.
+// The answer that carries a refusal alone. A private function is enough: a `From<Refusal>` would be one more public promise.
+#[tactic(auto, unfolding(crate::specs::Results::refused_result, twoway_means::specs::Table::no_cells, twoway_means::specs::Table::no_levels))]
 fn refused(refusal: Refusal) -> TwoWayAnovaResult
     ensures { result ≡ refused_result refusal }
 {

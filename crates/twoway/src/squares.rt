@@ -4,7 +4,9 @@ ghost use Rattle.twoway.specs.Inner.{squares_left, Ready};
 
 use results::Effects;
 
-// Of a by b cells with these means and counts. The scratch is left wiped.
+// Of a by b cells with these means and counts. They are two slices: the means are a field of the record of twoway_means, the counts one of that of
+// twoway_checks. The scratch is left wiped.
+#[tactic(auto, using(crate::proofs::Design::balanced_way, crate::proofs::Design::type3_way))]
 pub fn squares(
     values: &[f64],
     factor_a: &[u32],
@@ -21,7 +23,8 @@ pub fn squares(
     let first = counts[0];
     if twoway_balanced::other_count(counts) == first {
         lent::wipe(scratch);
-        return twoway_balanced::balanced_ss(means, first, a, b);
+        twoway_balanced::balanced_ss(means, first, a, b)
+    } else {
+        twoway_type3::type3_ss(values, factor_a, factor_b, a, b, scratch)
     }
-    twoway_type3::type3_ss(values, factor_a, factor_b, a, b, scratch)
 }

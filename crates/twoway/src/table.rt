@@ -8,6 +8,7 @@ use base::Refusal;
 use results::Effects;
 use twoway_means::CellTable;
 
+#[tactic(auto, using(crate::proofs::Counts::less_few, crate::proofs::Counts::some, float::proofs::Counts::small_count, base::proofs::Bounds::product_le), unfolding(crate::specs::Results::answer_of))]
 pub fn answer(values: &[f64], a: usize, b: usize, t: CellTable, e: Effects) -> TwoWayAnovaResult
     requires { Small values.now a b }
     ensures { result ≡ answer_of values.now a b t e }

@@ -1,13 +1,17 @@
 -- Laws of the lines of cells, and of the search for a count that differs.
-use mathlib.Core.Path.{◌≡◌, sym, ◌∙◌}
-use mathlib.Core.List.{List}
+use mathlib.Core.Path.{◌≡◌, refl, sym, ◌∙◌}
+use mathlib.Core.Bool.{Bool, true, false, cond, not}
+use mathlib.Core.List.{List, [], ◌∷◌}
 use Prim.Native.Nat.{ℕ, ◌+◌, ◌-◌, ◌*◌, ◌≤◌, ◌<◌}
-use native.Mathlib.Numerals.{add-one}
 use native.Mathlib.Omega.{arith}
-use borrow.Author.Tests.{eq-eqb, ne_eqb}
+use lib.Dec.{eqb}
+use denote.Ref.{Bor}
+use Rattle.std.specs.Prelude.{Option, None, Some}
+use Rattle.std.specs.Option.{unwrap_or, option_map}
+use Rattle.std.specs.List.{find}
 use lib.Ieee.{Float, nan}
-use lib.ListN.{length, get_or, take, drop, replicate, length-set, length-take, length-drop, drop_of_length-le}
-use lib.Seq.{drop-cons, length-take-le, get_or-take, get_or-drop}
+use lib.ListN.{length, get_or, take, drop, replicate, length-set, length-take, length-drop}
+use lib.Seq.{length-take-le, get_or-take, get_or-drop}
 use Rattle.base.proofs.Loops.{loop_length}
 use Rattle.float.specs.Words.{plus_zero}
 use Rattle.base.proofs.Bounds.{product_le}
@@ -25,19 +29,20 @@ module _ (a b : ℕ) (rows : a ≤ 6) (columns : b ≤ 6) where
   pub few_cells : a * b ≤ 36
   few_cells = product_le 6 6 rows columns
 
--- the search from c on: here, further on, or nowhere
-module _ (n : ℕ) (ns : List ℕ) (c : ℕ) where
-  pub unlike_here : c < length ns → (get_or ns c 0 ≡ n → ⊥) → unlike n (drop c ns) ≡ get_or ns c 0
-  unfolding unlike
-  unlike_here h d = rw (drop-cons ns c 0 h, ne_eqb (get_or ns c 0) n d)
+-- the first that is found not to be n, and n where none is
+pub unlike_found : (n : ℕ) (ns : List ℕ) → unwrap_or (find (λ m. not (eqb m n)) ns) n ≡ unlike n ns
+unfolding unlike
+unlike_found n [] = refl
+unlike_found n (m ∷ ms) = go (eqb m n) (unlike_found n ms)
+  where
+    go : (b : Bool) → unwrap_or (find (λ k. not (eqb k n)) ms) n ≡ unlike n ms → unwrap_or (cond (not b) (Some m) (find (λ k. not (eqb k n)) ms)) n ≡ cond b (unlike n ms) m
+    go true e = e
+    go false e = refl
 
-  pub unlike_further : c < length ns → get_or ns c 0 ≡ n → unlike n (drop (c + 1) ns) ≡ unlike n (drop c ns)
-  unfolding unlike
-  unlike_further h e = rw (add-one, drop-cons ns c 0 h, eq-eqb (get_or ns c 0) n e)
-
-  pub unlike_nowhere : length ns ≤ c → unlike n (drop c ns) ≡ n
-  unfolding unlike
-  unlike_nowhere h = rw (drop_of_length-le ns h)
+-- what a reference that was found, or the one beside it, shows
+pub shown_or : (r : Option (Bor ℕ)) (d : Bor ℕ) → (unwrap_or r d).now ≡ unwrap_or (option_map (λ x. x.now) r) d.now
+shown_or None d = refl
+shown_or (Some x) d = refl
 
 -- cell i of the b cells from s on
 module _ (ms : List Float) (s b i : ℕ) (fits : s + b ≤ length ms) (h : i < length (take (s + b - s) (drop s ms))) where

@@ -1,6 +1,8 @@
 // The sums of squares of a balanced two-way design: as many readings in each cell, so that the cells' means tell all.
-// Loops go by number where the places that are read lie apart.
-// The numbers of levels are two parameters: `Levels` is of the crates above.
+// Where the places that are read lie apart, loops go by number: `step_by` would ask that the step is not 0.
+// Where places are set from their numbers, loops go by number: `iter_mut().enumerate()` would have the number too, and is no plainer.
+// The numbers of levels are two parameters: `Levels` (twoway_normal) are two to six of each, and these functions, whose public one takes any two numbers,
+// also work out fewer.
 #![tactic(auto)]
 
 ghost use Rattle.std.specs.Prelude.{◌≡◌, ℕ, ◌+◌, ◌*◌, ◌≤◌, ◌<◌, length};
@@ -12,36 +14,33 @@ ghost use Rattle.twoway_balanced.specs.Inner.{Fitting};
 use results::Effects;
 
 // The first count that differs from the first of them; the first itself where none does, 0 where there is none.
-#[tactic(auto, unfolding(crate::specs::Squares::other_count, crate::specs::Squares::unlike))]
 // No Option: the definition and the edits `other_count--..` say what stands for none.
+#[tactic(auto, unfolding(crate::specs::Squares::other_count, crate::specs::Squares::unlike))]
 pub fn other_count(counts: &[usize]) -> usize
     ensures { result ≡ other_count counts.now }
 {
     let Some(first) = counts.first() else {
         return 0;
     };
-    for count in counts {
-        if count != first {
-            return *count;
-        }
-    }
-    *first
+    *counts.iter().find(|c| *c != first).unwrap_or(first)
 }
 
 // n means, the first of them s, each d further on, added up from 0.0.
+#[tactic(auto, using(base::proofs::Loops::step, base::proofs::Loops::ends), unfolding(crate::specs::Squares::mean_line))]
 fn mean_line(means: &[f64], s: usize, d: usize, n: usize) -> f64
     requires { Line (length means.now) s d n }
     ensures { result ≡ mean_line means.now s d n }
 {
     let mut t = 0.0;
     for q in 0..n {
-        // By its number: step_by would ask that d is not 0.
         t += means[s + q * d];
     }
     t
 }
 
+// Not one function with `Cells::margins` of twoway_means: that one adds readings and counts them, this one adds means.
 // The mean of the n cells' means at each of m levels: the levels' first cells lie e apart, and a level's cells d apart.
+#[tactic(auto, using(float::proofs::Counts::small_count, base::proofs::Bounds::row_end, base::proofs::Loops::step, base::proofs::Loops::ends), unfolding(crate::specs::Squares::mean_margins))]
 fn mean_margins(means: &[f64], m: usize, e: usize, d: usize, n: usize) -> [f64; base::MOST_LEVELS]
     requires { (m ≤ most_levels) × (n ≤ most_levels) × (m * e ≤ most_cells) × ((i : ℕ) → i < m → Line (length means.now) (i * e) d n) }
     ensures { result ≡ mean_margins means.now m e d n }
@@ -54,6 +53,7 @@ fn mean_margins(means: &[f64], m: usize, e: usize, d: usize, n: usize) -> [f64; 
 }
 
 // What the cells of one row, the first of them s, add to the interaction.
+#[tactic(auto, using(crate::proofs::Lines::among_row, crate::proofs::Lines::row_at, crate::proofs::Lines::row_long, std::proofs::lemmas::Slice::Zip::zip_turn, std::proofs::lemmas::Slice::Zip::zip_end, base::proofs::Loops::step, base::proofs::Loops::ends), unfolding(crate::specs::Squares::ab_row))]
 fn ab_row(
     t: f64,
     means: &[f64],
@@ -75,6 +75,7 @@ fn ab_row(
     u
 }
 
+#[tactic(auto, using(base::proofs::Loops::step, base::proofs::Loops::ends), unfolding(crate::specs::Squares::ss_ab))]
 fn ss_ab(
     means: &[f64],
     means_a: &[f64; base::MOST_LEVELS],
@@ -94,6 +95,7 @@ fn ss_ab(
     t
 }
 
+#[tactic(auto, using(base::proofs::Places::row_line, base::proofs::Places::column_line, crate::proofs::Lines::few_cells, crate::proofs::Lines::taken, float::proofs::Counts::small_count, base::proofs::Bounds::product_le))]
 fn effects_of(means: &[f64], r: usize, a: usize, b: usize) -> Effects
     requires { Fitting means.now r a b }
     ensures { result ≡ effects_of means.now r a b }
@@ -123,7 +125,8 @@ pub fn balanced_ss(means: &[f64], r: usize, a: usize, b: usize) -> Effects
         || base::MOST_READINGS < r
         || means.len() != a * b
     {
-        return results::no_effects();
+        results::no_effects()
+    } else {
+        effects_of(means, r, a, b)
     }
-    effects_of(means, r, a, b)
 }

@@ -1,7 +1,7 @@
 -- The call, from the design that the checks answered with and what the sort left in the scratch.
 use mathlib.Core.Path.{◌≡◌, sym, ap, ◌∙◌}
 use mathlib.Core.List.{List, flatten}
-use Prim.Native.Nat.{ℕ}
+use Prim.Native.Nat.{ℕ, ◌<◌}
 use native.Mathlib.Omega.{arith}
 use lib.Ieee.{Float}
 use lib.ListN.{length}
@@ -57,6 +57,9 @@ module _ (xs : List Float) (us vs : List ℕ) (scratch : List Float) {x : Result
           counts = sym (tally_counts xs us vs (levels us) (levels vs) k);
           room = omega (arith, here.shape.places, k.readings);
         })
+
+    pub organized_narrow : d.levels_b < 4294967296
+    organized_narrow = omega (arith, its_levels, here.design.high_b)
 
     order_is : flatten (sorted (keys d.levels_b us vs) xs) ≡ cell_order (levels us) (levels vs) xs us vs
     order_is =

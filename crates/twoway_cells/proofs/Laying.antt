@@ -9,7 +9,7 @@ use lib.ListN.{length, get_or, set, drop}
 use Rattle.base.specs.Lists.{over}
 use Rattle.base.proofs.Rests.{first_left, over_at}
 use Rattle.twoway_checks.specs.Inner.{keys, sorted}
-use Rattle.twoway_checks.proofs.Keys.{Below, coded_keys, coded_below, coded_here, coded_key, coded_place}
+use Rattle.twoway_checks.proofs.Keys.{Below, coded_keys, coded_below, coded_key, coded_place}
 use Rattle.twoway_cells.specs.Inner.{Tallied}
 use Rattle.twoway_cells.specs.Starts.{starts_of}
 use Rattle.twoway_cells.proofs.Sorts.{Placed, placed_none, place_within, placed_one, placed_all}
@@ -43,20 +43,19 @@ module _ (xs : List Float) (us vs : List ℕ) (b : ℕ) (ns : List ℕ) (s₀ : 
       v-is : (i < length vs) × (v ≡ get_or vs i 0) × (rest_b' ≡ drop (i + 1) vs)
       v-is = first_left vs i 0 (sym now.codes_b ∙ g)
 
-      pub codes_here : (u < 6) × (v < 6) × (b ≤ 6)
-      codes_here = rw (u-is.1, v-is.1) (coded_here us vs b t.coded i u-is.0)
+      -- and its cell is number c
+      module _ (c : ℕ) (q : c ≡ u * b + v) where
+        key_here : c ≡ get_or (keys b us vs) i 0
+        key_here = coded_key us vs b t.coded i u-is.0 c (q ∙ rw (u-is.1, v-is.1))
 
-      key_here : u * b + v ≡ get_or (keys b us vs) i 0
-      key_here = coded_key us vs b t.coded i u-is.0 (u * b + v) (rw (u-is.1, v-is.1))
+        pub place_here : c < 36
+        place_here = coded_place us vs b t.coded i u-is.0 c (q ∙ rw (u-is.1, v-is.1))
 
-      pub place_here : u * b + v < 36
-      place_here = coded_place us vs b t.coded i u-is.0 (u * b + v) (rw (u-is.1, v-is.1))
+        pub room_here : get_or next c 0 < length s
+        room_here = omega (arith, place_within (keys b us vs) xs s₀ same_keys below t.room s next i now.placed x-is.0 c key_here, now.placed.places, t.room)
 
-      pub room_here : get_or next (u * b + v) 0 < length s
-      room_here = omega (arith, place_within (keys b us vs) xs s₀ same_keys below t.room s next i now.placed x-is.0 (u * b + v) key_here, now.placed.places, t.room)
-
-      pub laying_turn : (j : ℕ) → j ≡ i + 1 → Laying xs us vs b s₀ j rest' rest_a' rest_b' (set s (get_or next (u * b + v) 0) x) (set next (u * b + v) (get_or next (u * b + v) 0 + 1))
-      laying_turn j q = rw q (record { readings = x-is.2; codes_a = u-is.2; codes_b = v-is.2; placed = rw x-is.1 (placed_one (keys b us vs) xs s₀ same_keys below t.room s next i now.placed x-is.0 (u * b + v) key_here) })
+        pub laying_turn : (j : ℕ) → j ≡ i + 1 → Laying xs us vs b s₀ j rest' rest_a' rest_b' (set s (get_or next c 0) x) (set next c (get_or next c 0 + 1))
+        laying_turn j q = rw q (record { readings = x-is.2; codes_a = u-is.2; codes_b = v-is.2; placed = rw x-is.1 (placed_one (keys b us vs) xs s₀ same_keys below t.room s next i now.placed x-is.0 c key_here) })
 
     -- none is left of one, and so none of the others
     none_left : (rest ≡ []) ⊎ ((rest_a ≡ []) ⊎ (rest_b ≡ [])) → length xs ≤ i

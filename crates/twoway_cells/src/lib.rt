@@ -16,6 +16,7 @@ pub const STARTS: usize = base::MOST_CELLS + 1;
 
 // Where each cell begins, if the cells lie one after another and have as many readings as `counts` says; behind the last, where all end. Nothing but zeros
 // where there are over 36 cells, or over 512 readings in all.
+#[tactic(auto, using(base::proofs::Cuts::total_split, base::proofs::Sizes::total_next, base::proofs::Sizes::total_whole, crate::proofs::Starts::sums_start, crate::proofs::Starts::sums_turn, crate::proofs::Starts::sums_end, crate::proofs::Starts::too_many, crate::proofs::Starts::too_long, crate::proofs::Starts::told), unfolding(crate::specs::Starts::no_starts, base::specs::Lists::total))]
 pub fn starts_of(counts: &[usize]) -> [usize; STARTS]
     ensures { result ≡ starts_of counts.now }
 {
@@ -37,6 +38,7 @@ pub fn starts_of(counts: &[usize]) -> [usize; STARTS]
 }
 
 // The readings cell by cell in the first places of the scratch, by A, then B, and in input order within a cell; and how many each cell has.
+#[tactic(auto, using(crate::proofs::Answers::organized_refused, crate::proofs::Answers::organized_narrow, crate::proofs::Answers::organized_tallied, crate::proofs::Answers::organized_length, crate::proofs::Answers::organized_passed))]
 pub fn organize_two_way_data(
     values: &[f64],
     factor_a: &[u32],
@@ -46,6 +48,13 @@ pub fn organize_two_way_data(
     ensures { (scratch.new, result) ≡ organize_two_way_data values.now factor_a.now factor_b.now scratch.old }
 {
     let d = twoway_checks::check_two_way_data(values, factor_a, factor_b, scratch.len())?;
-    sort::lay(values, factor_a, factor_b, d.levels_b, &d.cell_n, scratch);
+    sort::lay(
+        values,
+        factor_a,
+        factor_b,
+        d.levels_b as u32,
+        &d.cell_n,
+        scratch,
+    );
     Ok(d)
 }

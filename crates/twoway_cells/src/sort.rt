@@ -5,12 +5,14 @@ ghost use Rattle.base.specs.Lists.{over};
 ghost use Rattle.twoway_checks.specs.Inner.{keys, sorted};
 ghost use Rattle.twoway_cells.specs.Inner.{Tallied};
 
+use twoway_checks::cell_number;
+
 // Lays each reading at its cell's next free place.
 pub fn lay(
     values: &[f64],
     factor_a: &[u32],
     factor_b: &[u32],
-    levels_b: usize,
+    levels_b: u32,
     counts: &[usize; base::MOST_CELLS],
     scratch: &mut [f64],
 )
@@ -19,7 +21,7 @@ pub fn lay(
 {
     let mut next = crate::starts_of(counts);
     for ((x, a), b) in values.iter().zip(factor_a).zip(factor_b) {
-        let c = (*a as usize) * levels_b + (*b as usize);
+        let c = cell_number(*a, *b, levels_b);
         let at = next[c];
         scratch[at] = *x;
         next[c] = at + 1;

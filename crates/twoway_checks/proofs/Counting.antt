@@ -26,7 +26,7 @@ counting_starts us vs us' vs' b k e f = rw (e, f) (record { coded = k; wide = re
 
 -- the next reading's codes are u and v, and its cell is number k
 module _ (us vs us' vs' : List ℕ) (u v b : ℕ) (ns : List ℕ) {whole : List ℕ} (now : Counting us vs b ns whole) (e : us ≡ u ∷ us') (f : vs ≡ v ∷ vs') where
-  pub codes_here : (u < 6) × (v < b) × (b ≤ 6)
+  codes_here : (u < 6) × (v < b) × (b ≤ 6)
   unfolding largest
   codes_here = let c = rw (e, f) at now.coded in (omega (arith, c.below), omega (arith, c.within), c.most)
 

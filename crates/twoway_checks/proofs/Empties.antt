@@ -1,29 +1,34 @@
--- The search for an empty cell among these counts: here, further on, or nowhere.
-use mathlib.Core.Path.{◌≡◌, refl}
-use mathlib.Core.List.{List, ◌∷◌}
-use Prim.Native.Nat.{ℕ, ◌+◌, ◌/◌, ◌%◌, ◌≤◌, ◌<◌}
-use native.Mathlib.Numerals.{add-one}
-use borrow.Author.Tests.{eq-eqb, ne_eqb, eqb-false}
-use lib.ListN.{length, get_or, drop, drop_of_length-le}
-use lib.Seq.{drop-cons}
+-- The search for an empty cell among these counts: what is said of the first that is found.
+use mathlib.Core.Path.{◌≡◌, refl, ap, ◌∙◌}
+use mathlib.Core.Bool.{Bool, true, false, cond}
+use mathlib.Core.List.{List, [], ◌∷◌}
+use Prim.Native.Nat.{ℕ, ◌+◌, ◌/◌, ◌%◌}
+use lib.Dec.{eqb, ltb}
+use lib.ListN.{length}
+use Rattle.std.specs.Prelude.{Option, None, Some}
+use Rattle.std.specs.List.{position_or_len, position_from}
+use Rattle.std.proofs.lemmas.Iterator.Adapters.{position_from-zero}
 use Rattle.base.specs.declared.Refusal.{Refusal}
-use Rattle.base.specs.Refusals.{refuse, none}
-use Rattle.base.proofs.Searches.{fault_nowhere, fault_here, fault_further}
-use Rattle.twoway_checks.specs.Checks.{empty_fault, empty_refusal}
+use Rattle.base.specs.Refusals.{refuse, none, ◌or_else◌, first_fault}
+use Rattle.twoway_checks.specs.Checks.{empty_refusal}
 
-module _ (b : ℕ) (ns : List ℕ) (c : ℕ) where
-  abbrev empties : Refusal
-  empties = empty_refusal b c (drop c ns)
+abbrev pub is_empty : ℕ → Bool
+is_empty n = eqb n 0
 
-  pub empty_nowhere : length ns ≤ c → none ≡ empties
-  empty_nowhere h = fault_nowhere (empty_fault b) c (drop_of_length-le ns h)
+-- what is said where the cell that was found has this number
+abbrev pub said : ℕ → Option ℕ → Refusal
+said b None = none
+said b (Some c) = refuse 7 (c / b) (c % b)
 
-  module _ (h : c < length ns) where
-    next : drop c ns ≡ get_or ns c 0 ∷ drop (c + 1) ns
-    next = rw (drop-cons ns c 0 h, add-one c)
+said_from : (b c : ℕ) (ns : List ℕ) → said b (position_from is_empty c ns) ≡ empty_refusal b c ns
+unfolding first_fault
+said_from b c [] = refl
+said_from b c (n ∷ ns) = go (eqb n 0) (said_from b (c + 1) ns)
+  where
+    go : (t : Bool) → said b (position_from is_empty (c + 1) ns) ≡ empty_refusal b (c + 1) ns
+        → said b (cond t (Some c) (position_from is_empty (c + 1) ns)) ≡ (cond t (refuse 7 (c / b) (c % b)) none or_else empty_refusal b (c + 1) ns)
+    go true e = refl
+    go false e = e
 
-    pub empty_here : get_or ns c 0 ≡ 0 → refuse 7 (c / b) (c % b) ≡ empties
-    empty_here e = fault_here (empty_fault b) c next (refuse 7 (c / b) (c % b)) (rw (eq-eqb (get_or ns c 0) 0 e)) (eqb-false 7 0 refl)
-
-    pub empty_further : (get_or ns c 0 ≡ 0 → ⊥) → empty_refusal b (c + 1) (drop (c + 1) ns) ≡ empties
-    empty_further n = fault_further (empty_fault b) c next none (rw (ne_eqb (get_or ns c 0) 0 n)) refl
+pub first_empty : (b : ℕ) (ns : List ℕ) (r : Option ℕ) → r ≡ cond (ltb (position_or_len is_empty ns) (length ns)) (Some (position_or_len is_empty ns)) None → said b r ≡ empty_refusal b 0 ns
+first_empty b ns r e = ap (said b) (e ∙ position_from-zero is_empty ns) ∙ said_from b 0 ns

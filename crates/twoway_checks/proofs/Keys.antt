@@ -172,11 +172,6 @@ module _ (us vs : List ℕ) (b : ℕ) (k : Coded us vs b) where
   coded_below = keys_below b 6 36 us vs k.same k.below k.within (omega (arith, k.most))
 
   module _ (i : ℕ) (h : i < length us) where
-    pub coded_here : (get_or us i 0 < 6) × (get_or vs i 0 < 6) × (b ≤ 6)
-    coded_here =
-        let hv : i < length vs = omega (arith, k.same) in
-        (omega (arith, code_le us i h, k.below), omega (arith, code_le vs i hv, k.within, k.most), k.most)
-
     pub coded_key : (c : ℕ) → c ≡ get_or us i 0 * b + get_or vs i 0 → c ≡ get_or (keys b us vs) i 0
     coded_key c e = e ∙ sym (key_at_lem b us vs i k.same h)
 

@@ -1,5 +1,5 @@
 -- Readings in the cells of two factors. xs are the readings; us are their codes of factor A, vs their codes of factor B.
-use Rattle.std.specs.Prelude.{ℕ, zero, suc, ◌*◌, ◌/◌, ◌%◌, cond, ◌&&◌, List, [], ◌∷◌, map, eqb, Float, length}
+use Rattle.std.specs.Prelude.{ℕ, zero, suc, ◌+◌, ◌*◌, ◌/◌, ◌%◌, cond, ◌&&◌, List, [], ◌∷◌, map, eqb, Float, length}
 
 -- cell (i, j): the readings with these two codes, in input order
 unfoldable pub cell : ℕ → ℕ → List Float → List ℕ → List ℕ → List Float
@@ -13,7 +13,11 @@ unfoldable pub numbers : ℕ → ℕ → List ℕ
 numbers k zero = []
 numbers k (suc n) = k ∷ numbers (suc k) n
 
--- cell number c, where factor B has b levels: cells are counted by A, then B, from 0
+-- the number of the cell of the codes u and v, where factor B has b levels: cells are counted by A, then B, from 0
+abbrev pub cell_number : ℕ → ℕ → ℕ → ℕ
+cell_number b u v = u * b + v
+
+-- cell number c, where factor B has b levels
 abbrev pub numbered : ℕ → List Float → List ℕ → List ℕ → ℕ → List Float
 numbered b xs us vs c = cell (c / b) (c % b) xs us vs
 

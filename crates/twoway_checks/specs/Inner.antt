@@ -1,11 +1,11 @@
 -- What the code keeps between its steps. It counts and sorts by the number of each reading's cell, its key; `proofs/Keys.antt` shows that the keys give the cells.
 -- No public contract cites these words.
-use Rattle.std.specs.Prelude.{ℕ, ◌<◌, ◌≤◌, ◌+◌, ◌*◌, ◌≡◌, Float, length, cond, eqb}
+use Rattle.std.specs.Prelude.{ℕ, ◌<◌, ◌≤◌, ◌≡◌, Float, length, cond, eqb}
 use mathlib.Core.List.{List, [], ◌∷◌, foldl, map}
 use Rattle.base.specs.Limits.{most_readings, most_levels}
 pub use Rattle.base.specs.Lists.{bump}
 use Rattle.twoway_checks.specs.Checks.{largest, levels}
-use Rattle.twoway_checks.specs.Cells.{numbers}
+use Rattle.twoway_checks.specs.Cells.{cell_number, numbers}
 use Rattle.twoway_checks.specs.Data.{no_counts}
 
 -- codes that can be counted: as many of A as of B, each below 6, and those of B below b
@@ -32,7 +32,7 @@ pub record Leveled (xs : List Float) (us vs : List ℕ) (a b : ℕ) : Type 0 whe
 unfoldable pub keys : ℕ → List ℕ → List ℕ → List ℕ
 keys b [] vs = []
 keys b (u ∷ us) [] = []
-keys b (u ∷ us) (v ∷ vs) = (u * b + v) ∷ keys b us vs
+keys b (u ∷ us) (v ∷ vs) = cell_number b u v ∷ keys b us vs
 
 -- the readings whose key is c
 unfoldable pub keyed : ℕ → List ℕ → List Float → List Float

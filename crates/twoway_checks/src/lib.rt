@@ -9,6 +9,7 @@ ghost use Rattle.std.specs.Prelude.{◌≡◌};
 ghost use Rattle.twoway_checks.specs.Data.{checked_data};
 
 use base::Refusal;
+pub use tally::cell_number;
 
 // The design of readings that passed the checks. The cell (i, j) stands at place i * levels_b + j of cell_n.
 // Memory is fixed and nothing is on a heap: the arrays have their counts beside them.
@@ -22,6 +23,7 @@ pub struct TwoWayData {
 
 // The two-way checks, in document 01's order, and the design of what passes them; `lent` is how many places of scratch the caller lends.
 // Nothing is sorted, and no scratch is touched. No cell is counted before both numbers of levels are known to be in range.
+#[tactic(auto, using(base::proofs::Judged::ends_call, base::proofs::Judged::asks_further, base::proofs::Judged::last_ends, base::proofs::Judged::last_passed, crate::proofs::Answers::counts_are, crate::proofs::Answers::cells_checked, crate::proofs::Doors::leveled_told, crate::proofs::Doors::coded), unfolding(crate::specs::Data::checked_data, crate::specs::Checks::two_way_refusal))]
 pub fn check_two_way_data(
     values: &[f64],
     factor_a: &[u32],
@@ -36,7 +38,7 @@ pub fn check_two_way_data(
     refusals::levels_refusal(a, b)?;
     let levels_a = a as usize;
     let levels_b = b as usize;
-    let cell_n = tally::count_cells(factor_a, factor_b, levels_b);
+    let cell_n = tally::count_cells(factor_a, factor_b, b as u32);
     refusals::cells_refusal(&cell_n, levels_a, levels_b, values.len())?;
     Ok(TwoWayData {
         levels_a,

@@ -67,15 +67,14 @@ fn empty_refusal(counts: &[usize], levels_b: usize) -> Result<(), Refusal>
     requires { 0 < levels_b }
     ensures { result ≡ verdict (empty_refusal levels_b 0 counts.now) }
 {
-    for (c, n) in counts.iter().enumerate() {
-        if *n == 0 {
-            return Err(Refusal::new(7, (c / levels_b) as u64, (c % levels_b) as u64));
-        }
+    match counts.iter().position(|n| *n == 0) {
+        Some(c) => Err(Refusal::new(7, (c / levels_b) as u64, (c % levels_b) as u64)),
+        None => Ok(()),
     }
-    Ok(())
 }
 
 // An empty cell, or no reading beyond one a cell.
+#[tactic(auto, using(base::proofs::Order::ends_there, base::proofs::Order::asks_next, base::proofs::Bounds::product_le), unfolding(crate::specs::Checks::cells_refusal))]
 pub fn cells_refusal(
     counts: &[usize; base::MOST_CELLS],
     levels_a: usize,

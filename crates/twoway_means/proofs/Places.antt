@@ -11,7 +11,7 @@ use lib.ListN.{length, get_or, take, drop, length-take, length-drop}
 use lib.Seq.{length-take-le}
 use Rattle.base.specs.Lists.{total, cut}
 use Rattle.base.proofs.Bounds.{product_le}
-use Rattle.base.proofs.Cuts.{total_split, cut_at, length_cut}
+use Rattle.base.proofs.Cuts.{cut_at, length_cut}
 use Rattle.base.proofs.Sizes.{total_next}
 use Rattle.twoway_cells.proofs.Starts.{starts_at, ends_within}
 use Rattle.twoway_means.specs.Table.{table_fits}
@@ -20,10 +20,6 @@ use Rattle.twoway_means.specs.Inner.{Laid, Fitting}
 either_false : (x : Bool) {y : Bool} → cond x false y ≡ true → (x ≡ false) × (y ≡ true)
 either_false false e = (refl, e)
 either_false true e = absurd (false≢true e)
-
--- a count that is over what is left of n: the sum is over n
-pub over_left : (ns : List ℕ) (c left n : ℕ) → c < length ns → left + total (take c ns) ≡ n → left < get_or ns c 0 → n < total ns
-over_left ns c left n h e q = omega (arith, total_next ns c h, total_split ns (c + 1))
 
 -- how many cells there are
 module _ (ns ss : List ℕ) (xs : List Float) {cs : List (List Float)} (e : cut ns xs ≡ cs) where

@@ -1,6 +1,7 @@
 // The cells of a two-way design told in numbers: their means, the means of each factor's levels, and the squared distances within the cells.
-// Loops go by number where a place of lent memory is set: of what an iterator over `&mut` wrote a proof knows the length alone.
-// The numbers of levels are two parameters: `Levels` is of the crates above.
+// Where places are set from their numbers, loops go by number: `iter_mut().enumerate()` would have the number too, and is no plainer.
+// The numbers of levels are two parameters: `Levels` (twoway_normal) are two to six of each, and these functions, whose public one takes any two numbers,
+// also work out fewer.
 #![tactic(auto)]
 
 ghost use Rattle.std.specs.Prelude.{◌≡◌, ℕ, ◌*◌, ◌≤◌, ◌<◌, List, Float, length, take, leb};
@@ -34,14 +35,10 @@ pub struct CellTable {
 fn counts_within(counts: &[usize], n: usize) -> bool
     ensures { result ≡ leb (total counts.now) n }
 {
-    let mut left = n;
-    for count in counts {
-        if left < *count {
-            return false;
-        }
-        left -= count;
-    }
-    true
+    counts
+        .iter()
+        .try_fold(n, |left, count| left.checked_sub(*count))
+        .is_some()
 }
 
 fn tally_cell(t: Tally, cell: &[f64]) -> Tally
@@ -95,6 +92,7 @@ impl<'a> Cells<'a> {
     }
 
     // The readings of cell c.
+    #[tactic(auto, using(crate::proofs::Places::few, crate::proofs::Places::begins, crate::proofs::Places::stays, crate::proofs::Places::is_cell, crate::proofs::Places::short))]
     fn cell(&self, c: usize) -> &'a [f64]
         requires { c < length self.now }
         ensures { (result.now ≡ cell_at self.now c) × (length result.now ≤ most_readings) }
@@ -103,6 +101,7 @@ impl<'a> Cells<'a> {
     }
 
     // n cells, the first of them s, each d further on.
+    #[tactic(auto, using(base::proofs::Loops::step, base::proofs::Loops::ends, crate::proofs::Places::not_many), unfolding(crate::specs::Table::tally_line))]
     fn line(&self, s: usize, d: usize, n: usize) -> Tally
         requires { Line (length self.now) s d n }
         ensures { result ≡ tally_line self.now s d n }
@@ -113,6 +112,7 @@ impl<'a> Cells<'a> {
             sum: 0.0,
             count: 0.0,
         };
+        // By number: the cells lie d apart, and `step_by` would ask that d is not 0.
         for q in 0..n {
             t = tally_cell(t, self.cell(s + q * d));
         }
@@ -120,6 +120,7 @@ impl<'a> Cells<'a> {
     }
 
     // The mean of all readings at each of m levels: the levels' first cells lie e apart, and a level's n cells d apart.
+    #[tactic(auto, using(base::proofs::Bounds::row_end, base::proofs::Loops::step, base::proofs::Loops::ends), unfolding(crate::specs::Table::margins, base::specs::Lists::listed, crate::specs::Table::no_levels))]
     fn margins(&self, m: usize, e: usize, d: usize, n: usize) -> [f64; base::MOST_LEVELS]
         requires { (m ≤ most_levels) × ((m * e ≤ most_cells) × ((i : ℕ) → i < m → Line (length self.now) (i * e) d n)) }
         ensures { result ≡ margins self.now m e d n }
@@ -132,6 +133,7 @@ impl<'a> Cells<'a> {
         out
     }
 
+    #[tactic(auto, using(float::proofs::Counts::small_count, base::proofs::Loops::step, base::proofs::Loops::ends, crate::proofs::Places::as_many), unfolding(crate::specs::Table::cell_means, base::specs::Lists::listed, crate::specs::Table::no_cells))]
     fn means(&self) -> [f64; base::MOST_CELLS]
         ensures { result ≡ cell_means self.now (length self.now) }
     {
@@ -143,19 +145,20 @@ impl<'a> Cells<'a> {
         out
     }
 
+    #[tactic(auto, using(crate::proofs::Places::as_many, base::proofs::Loops::step, base::proofs::Loops::ends), unfolding(crate::specs::Table::ss_error))]
     fn ss_error(&self, means: &[f64; base::MOST_CELLS]) -> f64
         ensures { result ≡ ss_error self.now means.now (length self.now) }
     {
         let mut t = 0.0;
-        for c in 0..self.counts.len() {
-            t = add_squares(t, self.cell(c), means[c]);
+        for (c, mean) in means[..self.counts.len()].iter().enumerate() {
+            t = add_squares(t, self.cell(c), *mean);
         }
         float::canon(t)
     }
 }
 
+// Zeros, which the clause of `cell_table` wants where the design does not fit. A private function is enough: a `Default` would be one more public promise.
 #[tactic(auto, unfolding(crate::specs::Table::no_cells, crate::specs::Table::no_levels))]
-// Zeros, as document 01 has them.
 fn no_table() -> CellTable
     ensures { result ≡ no_table }
 {
@@ -200,7 +203,8 @@ pub fn cell_table(readings: &[f64], counts: &[usize], a: usize, b: usize) -> Cel
     ensures { result ≡ cell_table counts.now readings.now a b }
 {
     if table_fits(readings, counts, a, b) {
-        return table(readings, counts, a, b);
+        table(readings, counts, a, b)
+    } else {
+        no_table()
     }
-    no_table()
 }

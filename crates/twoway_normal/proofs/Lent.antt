@@ -5,6 +5,7 @@ use mathlib.Core.List.{List, [], ◌∷◌, ◌++◌, append_assoc}
 use native.Mathlib.Omega.{arith}
 use lib.ListN.{length, take, drop, get_or, length-append, length-take, length-drop}
 use lib.Seq.{take_at, drop_at, drop-drop, take-take, take-append-le, drop-append-le, take-add, length-take-le, get_or-take, get_or-drop}
+use Rattle.std.proofs.Common.{take-append-drop}
 use Rattle.base.specs.Lists.{part, over, within}
 
 module _ {A : Type 0} where
@@ -99,3 +100,12 @@ module _ {A : Type 0} where
           ∙ drop-append-le z (take r t) rest (omega (arith, long))
           ∙ ap (λ (w : List A). drop z w ++ rest) (split t)
           ∙ ap (λ (w : List A). w ++ rest) (drop_at (take z t) m z (length-take-le z t (omega arith)))
+
+  -- a change of a part of the first t places is that change of the whole
+  pub laid_first : (a k t : ℕ) (x s : List A) → a + k ≤ t → t ≤ length s → (take a (take t s) ++ (x ++ drop k (drop a (take t s)))) ++ drop t s ≡ take a s ++ (x ++ drop k (drop a s))
+  laid_first a k t x s h l =
+      let behind : drop k (drop a (take t s)) ++ drop t s ≡ drop k (drop a s) =
+      ap (λ (z : List A). z ++ drop t s) (drop-drop k a (take t s)) ∙ sym (drop-append-le (a + k) (take t s) (drop t s) (omega (arith, length-take-le t s l))) ∙ ap (drop (a + k)) (take-append-drop t s) ∙ sym (drop-drop k a s) in
+      append_assoc (take a (take t s)) (x ++ drop k (drop a (take t s))) (drop t s)
+      ∙ ap (λ (z : List A). z ++ ((x ++ drop k (drop a (take t s))) ++ drop t s)) (take-take a t s (omega (arith, h)))
+      ∙ ap (λ (z : List A). take a s ++ z) (append_assoc x (drop k (drop a (take t s))) (drop t s) ∙ ap (λ (z : List A). x ++ z) behind)

@@ -1,5 +1,5 @@
 // The row of the design matrix that the readings of a cell have, by effect coding.
-// Loops go by number where a place of lent memory is set: of what an iterator over `&mut` wrote a proof knows the length alone.
+// Where places are set from their numbers, loops go by number: `iter_mut().enumerate()` would have the number too, and is no plainer.
 ghost use Rattle.std.specs.Prelude.{◌≡◌, ◌-◌, ◌≤◌, ◌<◌};
 ghost use Rattle.base.specs.Limits.{most_levels};
 ghost use Rattle.twoway_normal.specs.Coding.{effect_code, codes_from, products_of, products, design_row};
@@ -10,20 +10,22 @@ use crate::levels::Levels;
 const ROW: usize = base::MOST_CELLS + 1;
 
 // Column k of a factor: 1, or -1 at the last level, or 0.
+#[tactic(auto, using(base::proofs::Bounds::then_of, base::proofs::Bounds::else_of), unfolding(crate::specs::Coding::effect_code))]
 fn effect_code(levels: usize, u: usize, k: usize) -> f64
     requires { 2 ≤ levels }
     ensures { result ≡ effect_code levels u k }
 {
     if u == k {
-        return 1.0;
+        1.0
+    } else if u == levels - 1 {
+        -1.0
+    } else {
+        0.0
     }
-    if u == levels - 1 {
-        return -1.0;
-    }
-    0.0
 }
 
 // All columns of a factor, from place p on.
+#[tactic(auto, using(base::proofs::Loops::step, base::proofs::Loops::ends), unfolding(crate::specs::Coding::codes_from))]
 fn codes_from(x: &mut [f64; ROW], p: usize, levels: usize, u: usize)
     requires { (2 ≤ levels) × (levels ≤ most_levels) × (p ≤ most_levels) }
     ensures { x.new ≡ codes_from p levels u x.old }
@@ -34,6 +36,7 @@ fn codes_from(x: &mut [f64; ROW], p: usize, levels: usize, u: usize)
 }
 
 // The products of one column of A and the columns of B.
+#[tactic(auto, using(base::proofs::Bounds::product_le, base::proofs::Loops::step, base::proofs::Loops::ends), unfolding(crate::specs::Coding::products_of))]
 fn products_of(x: &mut [f64; ROW], levels: Levels, ka: usize)
     requires { (ka < levels.a - 1) }
     ensures { x.new ≡ products_of levels.a levels.b ka x.old }
@@ -45,6 +48,7 @@ fn products_of(x: &mut [f64; ROW], levels: Levels, ka: usize)
     }
 }
 
+#[tactic(auto, using(base::proofs::Loops::step, base::proofs::Loops::ends), unfolding(crate::specs::Coding::products))]
 fn products(x: &mut [f64; ROW], levels: Levels)
     ensures { x.new ≡ products levels.a levels.b x.old }
 {
@@ -54,6 +58,7 @@ fn products(x: &mut [f64; ROW], levels: Levels)
 }
 
 // The row of the codes u and v, and a value behind it.
+#[tactic(auto, using(base::proofs::Bounds::product_le, crate::proofs::Built::row_built), unfolding(lent::specs::Wiping::zeros))]
 pub fn design_row(levels: Levels, u: usize, v: usize, y: f64) -> [f64; ROW]
     ensures { result ≡ design_row levels.a levels.b u v y }
 {

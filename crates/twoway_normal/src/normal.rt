@@ -1,5 +1,5 @@
 // The normal equations. X'X is taken from the counts of the cells, X'y reading by reading.
-// Loops go by number where a place of lent memory is set: of what an iterator over `&mut` wrote a proof knows the length alone.
+// Where places are set from other places, loops go by number: of what `iter_mut().zip(..)` writes a proof knows the length alone.
 ghost use Rattle.std.specs.Prelude.{◌≡◌, ◌+◌, ◌*◌, ◌≤◌, ◌<◌, length};
 ghost use Rattle.base.specs.Limits.{scratch_places};
 ghost use Rattle.float.specs.Words.{◌⊗◌};
@@ -8,13 +8,14 @@ ghost use Rattle.twoway_normal.specs.Equations.{laid_system};
 ghost use Rattle.twoway_normal.specs.Inner.{Fitting, CellAdded, CellsAdded, Kept, add_row, add_products, add_value, ValueSums, put_column};
 
 use crate::codes::design_row;
-use crate::counts::{cell_of, count_cells};
+use crate::counts::{MOST_COUNTS, cell_of, count_cells};
 use crate::levels::Levels;
 
 // Where the rows of codes of the cells are kept: behind the system.
-const ROWS: usize = base::MOST_CELLS * (base::MOST_CELLS + 1);
+const ROWS: usize = crate::SYSTEM;
 
 // Row j of the equations gets n times the products of code j with all codes.
+#[tactic(auto, using(base::proofs::Loops::step, base::proofs::Loops::ends, crate::proofs::Heads::first_here, crate::proofs::Heads::first_long), unfolding(crate::specs::Inner::add_row))]
 fn add_row(x: &[f64], n: f64, w: usize, j: usize, m: &mut [f64])
     requires { (j < length x.now) × (w ≤ length x.now) × (j * w + w ≤ length m.old) }
     ensures { m.new ≡ add_row w n x.now j m.old }
@@ -26,6 +27,7 @@ fn add_row(x: &[f64], n: f64, w: usize, j: usize, m: &mut [f64])
     }
 }
 
+#[tactic(auto, using(base::proofs::Bounds::row_end, base::proofs::Loops::step, base::proofs::Loops::ends), unfolding(crate::specs::Inner::add_products))]
 fn add_products(x: &[f64], n: f64, p: usize, w: usize, m: &mut [f64])
     requires { (p ≤ length x.now) × (w ≤ length x.now) × (p * w ≤ length m.old) }
     ensures { m.new ≡ add_products p w n x.now m.old }
@@ -35,10 +37,10 @@ fn add_products(x: &[f64], n: f64, p: usize, w: usize, m: &mut [f64])
     }
 }
 
-// The lent memory stays a parameter, and its length a clause: with a struct of it each clause would say, beside what it becomes, that its length stays.
 // The cell c has n readings: its products are added, and its row of codes is kept. A cell without readings is passed over.
-fn add_cell(levels: Levels, c: usize, n: u32, work: &mut [f64])
-    requires { (c < cells_of levels.a levels.b) × (scratch_places ≤ length work.old) }
+#[tactic(auto, using(crate::proofs::Built::row_length, crate::proofs::Keeping::Room, crate::proofs::Keeping::rows_room, crate::proofs::Keeping::cell_room, crate::proofs::Keeping::passed_over, crate::proofs::Keeping::cell_lent), unfolding(crate::specs::Counted::cell_row))]
+fn add_cell(levels: Levels, c: usize, n: u32, work: &mut [f64; base::SCRATCH_PLACES])
+    requires { c < cells_of levels.a levels.b }
     ensures { CellAdded levels.a levels.b c n work.old work.new }
 {
     if n == 0 {
@@ -52,12 +54,13 @@ fn add_cell(levels: Levels, c: usize, n: u32, work: &mut [f64])
 }
 
 // All cells.
-fn add_cells(levels: Levels, counts: &[u32], work: &mut [f64])
-    requires { (length counts.now ≡ most_counts) × (scratch_places ≤ length work.old) }
+#[tactic(auto, using(base::proofs::Loops::step, base::proofs::Loops::ends, crate::proofs::Coded::cells_few, crate::proofs::Keeping::rows_room, crate::proofs::Keeping::kept_next, crate::proofs::Keeping::aside_none, crate::proofs::Keeping::aside_then, crate::proofs::Keeping::aside_cell), unfolding(crate::specs::Inner::add_cells))]
+fn add_cells(levels: Levels, counts: &[u32; MOST_COUNTS], work: &mut [f64; base::SCRATCH_PLACES])
     ensures { CellsAdded levels.a levels.b counts.now work.old work.new }
 {
-    for c in 0..(levels.a + 1) * (levels.b + 1) {
-        add_cell(levels, c, counts[c], work);
+    let cells = (levels.a + 1) * (levels.b + 1);
+    for (c, n) in counts[..cells].iter().enumerate() {
+        add_cell(levels, c, *n, work);
     }
 }
 
@@ -69,6 +72,7 @@ fn product(code: f64, y: f64) -> f64
 }
 
 // The codes from place q on, each times y, are added to p sums.
+#[tactic(auto, using(base::proofs::Loops::step, base::proofs::Loops::ends, crate::proofs::Heads::part_here, crate::proofs::Heads::part_long), unfolding(crate::specs::Inner::add_value))]
 fn add_value(rows: &[f64], q: usize, p: usize, y: f64, sums: &mut [f64])
     requires { (q + p ≤ length rows.now) × (p ≤ length sums.old) }
     ensures { sums.new ≡ add_value q p rows.now y sums.old }
@@ -79,6 +83,7 @@ fn add_value(rows: &[f64], q: usize, p: usize, y: f64, sums: &mut [f64])
 }
 
 // X'y, over the readings in their order.
+#[tactic(auto, using(std::proofs::lemmas::List::nil_from_length, std::proofs::lemmas::Slice::Zip::either_empty_from_Zip, base::proofs::Loops::step, base::proofs::Loops::ends, base::proofs::Rests::first_left, base::proofs::Rests::over_at, crate::proofs::Coded::row_within, crate::proofs::Readings::add_reading, crate::proofs::Readings::values_walk, crate::proofs::Sizes::cells_most), unfolding(lent::specs::Wiping::zeros))]
 fn value_sums(
     values: &[f64],
     factor_a: &[u32],
@@ -99,6 +104,7 @@ fn value_sums(
 }
 
 // The sums come behind the rows of X'X. X'X has no NaN, and a NaN of a sum is made canonical.
+#[tactic(auto, using(base::proofs::Bounds::row_end, base::proofs::Loops::step, base::proofs::Loops::ends, crate::proofs::Heads::first_here, crate::proofs::Heads::first_long), unfolding(crate::specs::Inner::put_column))]
 fn put_column(sums: &[f64], p: usize, m: &mut [f64])
     requires { (p ≤ length sums.now) × (p * (p + 1) ≤ length m.old) }
     ensures { m.new ≡ put_column p sums.now m.old }
@@ -109,15 +115,16 @@ fn put_column(sums: &[f64], p: usize, m: &mut [f64])
 }
 
 // X'X and, behind each of its rows, that of X'y, in the first places. The rows of codes of the cells lie behind them until the values are added.
+#[tactic(auto, using(crate::proofs::Coded::cells_few, crate::proofs::Keeping::Room, crate::proofs::Keeping::rows_room, crate::proofs::Keeping::kept_lent, crate::proofs::Keeping::system_lent))]
 pub fn normal_system(
     values: &[f64],
     factor_a: &[u32],
     factor_b: &[u32],
     a: usize,
     b: usize,
-    work: &mut [f64],
+    work: &mut [f64; base::SCRATCH_PLACES],
 )
-    requires { Fitting values.now factor_a.now factor_b.now a b × (scratch_places ≤ length work.old) }
+    requires { Fitting values.now factor_a.now factor_b.now a b }
     ensures { work.new ≡ laid_system values.now factor_a.now factor_b.now a b work.old }
 {
     let levels = Levels { a, b };

@@ -7,7 +7,7 @@ ghost use Rattle.twoway_normal.specs.Shape.{factor_fits, fits};
 fn factor_fits(levels: usize, codes: usize, n: usize) -> bool
     ensures { result ≡ factor_fits levels codes n }
 {
-    2 <= levels && levels <= base::MOST_LEVELS && codes == n
+    (2..=base::MOST_LEVELS).contains(&levels) && codes == n
 }
 
 #[tactic(auto, unfolding(crate::specs::Shape::fits))]

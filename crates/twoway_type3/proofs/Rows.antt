@@ -1,16 +1,14 @@
--- A row copied behind where it lies, and zeros put behind it: place by place, as the definition says, and all at once, as the library does.
+-- A row copied behind where it lies: place by place, as the definition says, and all at once, as the library does.
 use Prim.Native.Nat.{ℕ, ◌+◌, ◌-◌, ◌≤◌, ◌<◌}
 use mathlib.Core.Path.{◌≡◌, sym, ap, ◌∙◌}
 use mathlib.Core.List.{List, ◌++◌}
 use native.Mathlib.Omega.{arith}
 use lib.Ieee.{Float, nan}
-use lib.ListN.{length, set, take, drop, replicate, get_or, length-drop, length-append, length-replicate, get_or-append, get_or-replicate}
+use lib.ListN.{length, set, take, drop, get_or, length-drop, length-append, get_or-append}
 use lib.Seq.{paste, get_or-take, get_or-drop, length-take-le}
 use Rattle.std.proofs.lemmas.List.Edits.{paste_none, paste_more}
 use Rattle.base.specs.Loop.{loop}
 use Rattle.base.proofs.Walks.{walks}
-use Rattle.float.specs.Words.{plus_zero}
-use Rattle.matrix_linear.specs.Inverse.{zero_at}
 use Rattle.matrix_linear.specs.Rows.{at}
 use Rattle.twoway_type3.specs.Inner.{copy_at}
 
@@ -33,10 +31,3 @@ module _ (m : List Float) (p q n : ℕ) (before : q + n ≤ p) (room : p + n ≤
   copied_row =
       let k : q + n - q ≡ n = omega arith in
       rw k (sym (walks (copy_at q p) (λ j s. s ≡ copied j) n (λ j s l e. rw e (ap (set (copied j) (p + j)) (read j l) ∙ paste_more m p (drop q m) j nan (omega arith) (rw length-drop (omega arith)))) 0 m (omega arith) (paste_none m p (drop q m))))
-
--- n zeros from place a on
-pub zero_row : (w : List Float) (a n : ℕ) → a + n ≤ length w → paste w a (replicate n plus_zero) n ≡ loop 0 n (zero_at a) w
-zero_row w a n room =
-    sym (walks (zero_at a) (λ j s. s ≡ paste w a (replicate n plus_zero) j) n
-    (λ j s l e. rw e (ap (set (paste w a (replicate n plus_zero) j) (a + j)) (sym (get_or-replicate {A = Float} n j plus_zero nan l)) ∙ paste_more w a (replicate n plus_zero) j nan (omega arith) (rw length-replicate l)))
-    0 w (omega arith) (paste_none w a (replicate n plus_zero)))

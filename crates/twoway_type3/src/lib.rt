@@ -1,5 +1,5 @@
 // Type III sums of squares of an unbalanced two-way design, in memory that the caller lends.
-// The lent rows and their sizes stay parameters: a struct of them would have each clause say, beside what the rows become, that the sizes stay.
+// Within the crate that memory is an array of 6,400 places, whose type tells its length; `type3_ss` has a slice.
 // Readings and the codes of both factors are three slices, as document 01 has them: refusal 5 tells their lengths.
 #![tactic(auto)]
 
@@ -25,10 +25,9 @@ pub fn type3_ss(
     ensures { (work.new, result) ≡ type3_ss values.now factor_a.now factor_b.now a b work.old }
 {
     if twoway_normal::normal_equations(values, factor_a, factor_b, a, b, work) {
-        let levels = Levels { a, b };
-        let e = wald::all_effects(levels, &mut work[0..base::SCRATCH_PLACES]);
-        lent::wipe(work);
-        return e;
+        let room = work.first_chunk_mut().unwrap();
+        wald::all_effects(Levels { a, b }, room)
+    } else {
+        results::no_effects()
     }
-    results::no_effects()
 }

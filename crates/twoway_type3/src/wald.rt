@@ -2,6 +2,7 @@
 ghost use Rattle.std.specs.Prelude.{◌≡◌, ◌+◌, ◌*◌, ◌≤◌, ◌<◌, length, take};
 ghost use Rattle.base.specs.Limits.{most_cells, scratch_places};
 ghost use Rattle.base.specs.Lists.{part};
+ghost use Rattle.lent.specs.Wiping.{zeros};
 ghost use Rattle.twoway_type3.specs.Inner.{IsSolved, inverse_from, block_from, most_columns};
 ghost use Rattle.twoway_type3.specs.Wald.{wald_row, wald_sum, wald_ss};
 ghost use Rattle.twoway_type3.specs.Answer.{effects_from};
@@ -11,7 +12,7 @@ use results::{Effects, Skips};
 use twoway_normal::Levels;
 
 // Where the inverse of X'X lies, behind the system; and where an effect's block lies, behind both.
-const INVERSE: usize = base::MOST_CELLS * (base::MOST_CELLS + 1);
+const INVERSE: usize = twoway_normal::SYSTEM;
 
 const BLOCK: usize = INVERSE + base::MOST_CELLS * (2 * base::MOST_CELLS);
 
@@ -51,7 +52,7 @@ impl Columns {
         let Columns { p, s, n } = self;
         let f = beta[(s + i) * (p + 1) + p];
         let mut t = ss;
-        // By number: the coefficients lie p + 1 places apart.
+        // By number: the coefficients lie p + 1 places apart, and `skip`, `step_by` and `zip` over both lists are no plainer.
         for j in 0..n {
             t += f * cov[i * (2 * n) + n + j] * beta[(s + j) * (p + 1) + p];
         }
@@ -64,6 +65,7 @@ impl Columns {
         ensures { result ≡ wald_sum self.p self.s self.n beta.now cov.now }
     {
         let mut ss = 0.0;
+        // By number: `wald_row` asks for it, and a fold over the numbers is no plainer.
         for i in 0..self.n {
             ss = self.wald_row(beta, cov, i, ss);
         }
@@ -71,24 +73,26 @@ impl Columns {
     }
 
     // The sum of squares of the effect.
-    fn wald_ss(self, work: &mut [f64]) -> Effect
-        requires { length work.old ≡ scratch_places }
+    #[tactic(auto, using(crate::proofs::Chains::wald_lent, twoway_normal::proofs::Sizes::system_most, crate::proofs::Sizes::block_start, crate::proofs::Sizes::block_rows, crate::proofs::Sizes::block_most, crate::proofs::Sizes::inverse_most))]
+    fn wald_ss(self, work: &mut [f64; base::SCRATCH_PLACES]) -> Effect
         ensures { (result ≡ wald_ss self.p self.s self.n (part 0 (self.p * (self.p + 1)) work.old) (part inverse_from (self.p * (2 * self.p)) work.old)) × (take block_from work.new ≡ take block_from work.old) }
     {
         let Columns { p, s, n } = self;
         left_half(work, BLOCK, n, INVERSE + (s * (2 * p) + (p + s)), 2 * p);
         let end = BLOCK + n * (2 * n);
         let e = matrix_linear::matrix_inverse(&mut work[BLOCK..end], n);
+        // A slice of it: the borrow checker does not cover a part with a start of an array that is lent already.
+        let all: &[f64] = work;
         Effect {
-            ss: self.wald_sum(&work[0..p * (p + 1)], &work[BLOCK..end]),
+            ss: self.wald_sum(&all[0..p * (p + 1)], &all[BLOCK..end]),
             skipped: e.skipped,
         }
     }
 }
 
 // The system in the first places is solved: the coefficients come to its last column, and behind it the inverse of X'X, on the right of its rows.
-fn solve(levels: Levels, work: &mut [f64]) -> Solved
-    requires { length work.old ≡ scratch_places }
+#[tactic(auto, using(crate::proofs::Chains::solve_lent, crate::proofs::Sizes::solve_room, crate::proofs::Sizes::system_rows))]
+fn solve(levels: Levels, work: &mut [f64; base::SCRATCH_PLACES]) -> Solved
     ensures { IsSolved levels.a levels.b work.old work.new result }
 {
     let p = levels.a * levels.b;
@@ -103,10 +107,10 @@ fn solve(levels: Levels, work: &mut [f64]) -> Solved
     }
 }
 
-// The effects, from the system in the first places.
-pub fn all_effects(levels: Levels, work: &mut [f64]) -> Effects
-    requires { length work.old ≡ scratch_places }
-    ensures { result ≡ effects_from (part 0 (levels.a * levels.b * (levels.a * levels.b + 1)) work.old) levels.a levels.b }
+// The effects, from the system in the first places. The memory is left wiped.
+#[tactic(auto, using(lent::proofs::Wipes::wiped_short, crate::proofs::Chains::effects_chain, twoway_normal::proofs::Sizes::cells_most, twoway_normal::proofs::Sizes::columns))]
+pub fn all_effects(levels: Levels, work: &mut [f64; base::SCRATCH_PLACES]) -> Effects
+    ensures { (work.new ≡ zeros scratch_places) × (result ≡ effects_from (part 0 (levels.a * levels.b * (levels.a * levels.b + 1)) work.old) levels.a levels.b) }
 {
     let solved = solve(levels, work);
     let Levels { a, b } = levels;
@@ -120,6 +124,7 @@ pub fn all_effects(levels: Levels, work: &mut [f64]) -> Effects
         n: of_a * of_b,
     }
     .wald_ss(work);
+    lent::wipe(work);
     Effects {
         ss_a: ss_a.ss,
         ss_b: ss_b.ss,

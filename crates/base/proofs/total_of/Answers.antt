@@ -1,14 +1,9 @@
 -- The walk ends at n or behind the last size, and either way no size of the first n is left.
-use Rattle.std.proofs.Common.{refl, arith}
+use Rattle.std.proofs.Common.{arith}
 use lib.ListN.{length-take}
 use lib.Seq.{get_or-take}
-use Rattle.base.specs.Lists.{total}
 use Rattle.base.proofs.Sizes.{total_next}
 use Rattle.base.proofs.total_of.Goals as goal
-
-pub loop-size-init : goal.loop-size-init
-unfolding total
-loop-size-init c = (omega arith, refl)
 
 pub loop-size-preserved : goal.loop-size-preserved
 loop-size-preserved c =

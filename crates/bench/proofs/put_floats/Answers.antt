@@ -1,21 +1,16 @@
 -- Each float's eight bytes are put where those before it end: what is left to put from float i on gives the whole.
 use Prim.Native.Nat.{◌≤◌, ◌+◌}
-use mathlib.Core.Path.{◌≡◌, refl, ◌∙◌, ap}
+use mathlib.Core.Path.{◌≡◌, ◌∙◌, ap}
 use native.Mathlib.Omega.{arith}
 use lib.ListN.{length, get_or}
 use lib.Seq.{sets, length-sets}
 use lib.Ieee.{nan}
 use Rattle.set.specs.Bytes.{bytes}
-use Rattle.base.specs.Lists.{run}
-use Rattle.base.proofs.Runs.{run_step, run_end, sets_over}
+use Rattle.base.proofs.Runs.{run_step}
 use Rattle.text.proofs.Puts.{put_lays, put_place}
-use Rattle.bench.proofs.Writes.{eight, length_floats}
+use Rattle.bench.proofs.Writes.{eight}
 use Rattle.bench.specs.Calls.{float_bytes}
 use Rattle.bench.proofs.put_floats.Goals as goal
-
-pub loop-x-init : goal.loop-x-init
-loop-x-init c =
-    (refl, refl, sets_over (run float_bytes c.args.figures.now) c.args.out.now (rw (length_floats c.args.figures.now) c.requires))
 
 pub loop-x-preserved : goal.loop-x-preserved
 loop-x-preserved c =
@@ -30,7 +25,3 @@ loop-x-preserved c =
       omega (arith, behind, c.loop-x.invariant.1),
       run_step float_bytes c.args.figures.now nan i c.loop-x-test.true c.loop-x.out c.loop-x.at c.loop-x.invariant.2 laid (rw (eight x) behind),
     )
-
-pub returns : goal.returns
-returns c =
-    rw (run_end float_bytes c.args.figures.now c.loop-x.x-index c.loop-x-test.false) at c.loop-x.invariant.2

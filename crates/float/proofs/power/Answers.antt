@@ -1,12 +1,7 @@
 -- `float::power`: what is left of the loop gives the whole power. Its first `if` makes the result the definition's next one (`odd_turn`, `even_turn`).
-use Rattle.std.proofs.Common.{◌∙◌, refl, arith}
-use Rattle.float.specs.Singles.{power_of}
+use Rattle.std.proofs.Common.{◌∙◌, arith}
 use Rattle.float.proofs.Powers.{odd_turn, even_turn, next_turn, last_turn, ends}
 use Rattle.float.proofs.power.Goals as goal
-
-pub loop-left-init : goal.loop-left-init
-unfolding power_of
-loop-left-init c = (32, omega arith, refl)
 
 pub loop-left-preserved-then-left-ne0 : goal.loop-left-preserved-then-left-ne0
 loop-left-preserved-then-left-ne0 c =

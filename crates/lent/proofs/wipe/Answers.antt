@@ -1,7 +1,6 @@
 -- What is filled is as many places as there are up to 6,400, and a copy of a number is that number.
 use Rattle.std.proofs.Common.{◌∙◌, ap, length-take-le, arith}
 use lib.ListN.{replicate}
-use lib.Ieee.{Float}
 use Rattle.float.specs.Words.{plus_zero}
 use Rattle.lent.specs.Wiping.{zeros}
 use Rattle.lent.proofs.Wipes.{wiped_by}

@@ -3,7 +3,7 @@ use Rattle.std.proofs.Common.{refl, length, ◌∙◌, arith}
 use lib.ListN.{length-set, length-take}
 use Rattle.std.proofs.lemmas.List.{take_min, drop_min}
 use Rattle.oneway_rows.specs.Rows.{row_answer, rows_put}
-use Rattle.oneway_rows.proofs.Laid.{laid_start, laid_turn, laid_done}
+use Rattle.oneway_rows.proofs.Laid.{laid_start, laid_turn}
 use Rattle.oneway_rows.proofs.put_rows.Goals as goal
 
 pub loop-g-init : goal.loop-g-init
@@ -17,6 +17,3 @@ loop-g-preserved c = (
   rw length-set c.loop-g.invariant.0,
   rw (c.split_at.ensures.back, c.min.ensures, drop_min) (laid_turn row_answer _ c.loop-g.g c.loop-g.rest.now c.loop-g.out c.loop-g.invariant.1 c.loop-g-test.true (c.of.ensures ∙ rw (c.split_at.ensures.front, c.min.ensures, take_min))),
 )
-
-pub returns : goal.returns
-returns c = laid_done row_answer _ c.loop-g.g c.loop-g.rest.now c.loop-g.out c.loop-g.invariant.1 c.loop-g-test.false

@@ -1,26 +1,15 @@
 -- Place after place is filled with the number of its two bytes, and the numbers are added up beside them: 16 of them do not wrap.
-use Rattle.std.proofs.Common.{◌≡◌, refl, length, ◌≤◌, ◌/◌, arith}
+use Rattle.std.proofs.Common.{◌≡◌, length, ◌≤◌, ◌/◌, arith}
 use mathlib.Core.List.{[], map}
 use lib.ListN.{length-set, length-map}
 use Rattle.base.specs.Lists as Lists
 use Rattle.base.specs.Lists.{words}
 use Rattle.base.proofs.Cuts.{total_done}
-use Rattle.base.proofs.Fills.{fill_starts, fill_step, fill_ends}
+use Rattle.base.proofs.Fills.{fill_step, fill_ends}
 use Rattle.base.proofs.Words.{length_words}
-use Rattle.results.specs.Results.{no_sizes}
 use Rattle.set.specs.Bytes.{little}
 use Rattle.set.proofs.Littles.{chunks_are, among, pair_read, numbers_turn}
 use Rattle.set.proofs.sizes_in.Goals as goal
-
-pub loop-g-init : goal.loop-g-init
-unfolding no_sizes
-loop-g-init c =
-    (refl, omega arith, omega arith, fill_starts little (words 2 c.args.k c.args.bytes.now) no_sizes (rw (length_words 2 c.args.k c.args.bytes.now) c.requires.0))
-
-pub overflow_add-total : goal.overflow_add-total
-overflow_add-total c =
-    let few : c.args.k ≤ length c.args.bytes.now / 2 = omega (arith, c.requires.1) in
-    omega (arith, c.loop-g.invariant.1, c.requires.0, among 2 _ c.args.k c.args.bytes.now c.as_chunks.ensures.front few c.loop-g.g c.loop-g-test.true)
 
 pub loop-g-preserved : goal.loop-g-preserved
 loop-g-preserved c =

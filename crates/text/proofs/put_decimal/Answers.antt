@@ -6,9 +6,6 @@ use Rattle.text.specs.Put.{put_of}
 use Rattle.text.proofs.Numerals.{width_fits}
 use Rattle.text.proofs.put_decimal.Goals as goal
 
-pub slice_bounds-all-end : goal.slice_bounds-all-end
-slice_bounds-all-end c = omega (arith, width_fits c.args.n, c.width.ensures)
-
 pub slice_bounds-digits-end : goal.slice_bounds-digits-end
 slice_bounds-digits-end c = sym (length-take-le c.width.result _ (omega (arith, width_fits c.args.n, c.width.ensures)))
 

@@ -1,5 +1,5 @@
 -- Cell after cell of the row is added to one running sum.
-use Rattle.std.proofs.Common.{rules, refl, arith, ◌+◌, ◌-◌, [], ◌∷◌}
+use Rattle.std.proofs.Common.{rules, arith, ◌+◌, ◌-◌, [], ◌∷◌}
 use lib.Ieee.{nan}
 use lib.ListN.{take, drop, length-append}
 use Rattle.twoway_balanced.proofs.Lines.{among_row, row_at, row_long}
@@ -7,10 +7,6 @@ use Rattle.std.proofs.lemmas.Slice.Zip.{zip_turn, zip_end}
 use Rattle.twoway_balanced.specs.Squares.{ab_row}
 use Rattle.base.proofs.Loops.{step, ends}
 use Rattle.twoway_balanced.proofs.ab_row.Goals as goal
-
-pub loop-mean-init : goal.loop-mean-init
-unfolding ab_row
-loop-mean-init c = refl
 
 pub loop-mean-preserved : goal.loop-mean-preserved
 unfolding ab_row

@@ -5,14 +5,10 @@ use native.Mathlib.Omega.{arith}
 use lib.ListN.{length-set, take, get_or}
 use Rattle.base.specs.Lists.{total}
 use Rattle.base.proofs.Cuts.{total_split}
-use Rattle.base.proofs.Sizes.{total_next, total_whole}
+use Rattle.base.proofs.Sizes.{total_next}
 use Rattle.twoway_cells.specs.Starts.{no_starts}
-use Rattle.twoway_cells.proofs.Starts.{sums_start, sums_turn, sums_end, too_many, too_long, told}
+use Rattle.twoway_cells.proofs.Starts.{sums_start, sums_turn, too_long}
 use Rattle.twoway_cells.proofs.starts_of.Goals as goal
-
-pub returns-then-counts-gt-MOST_CELLS : goal.returns-then-counts-gt-MOST_CELLS
-unfolding no_starts
-returns-then-counts-gt-MOST_CELLS c = too_many _ c.if-counts-gt-MOST_CELLS.true
 
 pub loop-c-init : goal.loop-c-init
 unfolding total no_starts
@@ -28,8 +24,3 @@ pub loop-c-preserved : goal.loop-c-preserved
 loop-c-preserved c =
     let next : (total (take (c.loop-c.c + 1) c.args.counts.now) ≡ total (take c.loop-c.c c.args.counts.now) + get_or c.args.counts.now c.loop-c.c 0) = total_next c.args.counts.now c.loop-c.c c.loop-c-test.true in
     (simp length-set c.loop-c.invariant.0, omega arith, omega (arith, next), sums_turn c.args.counts.now c.if-counts-gt-MOST_CELLS.false c.loop-c.starts c.loop-c.at c.loop-c.c c.loop-c.invariant.3 c.loop-c-test.true)
-
-pub returns : goal.returns
-returns c =
-    sums_end c.args.counts.now c.if-counts-gt-MOST_CELLS.false c.loop-c.starts c.loop-c.at c.loop-c.c c.loop-c.invariant.3 (omega (arith, c.loop-c-test.false, c.loop-c.auto.c-end))
-    ∙ told c.args.counts.now c.if-counts-gt-MOST_CELLS.false (omega (arith, total_whole c.args.counts.now c.loop-c.c c.loop-c-test.false))

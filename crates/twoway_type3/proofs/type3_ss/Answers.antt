@@ -1,36 +1,25 @@
 -- Where the sizes fit, the normal equations and the effects are worked out in the first 6,400 places, and the wipe leaves no trace of that; where they do not, nothing is touched.
-use Prim.Native.Nat.{◌≤◌}
-use mathlib.Core.Path.{◌∙◌}
-use native.Mathlib.Omega.{arith}
-use lib.ListN.{length}
-use Rattle.base.proofs.Parts.{length_part}
+use mathlib.Core.Path.{◌≡◌}
+use lib.ListN.{take}
 use Rattle.base.specs.Limits.{scratch_places}
-use Rattle.twoway_normal.proofs.Laid.{equations_taken}
+use Rattle.twoway_normal.proofs.Laid.{equations_room, equations_taken}
 use Rattle.twoway_type3.proofs.Answers.{not_taken_lem, taken}
 use Rattle.twoway_type3.proofs.type3_ss.Goals as goal
 
-pub slice_bounds-all_effects-end : goal.slice_bounds-all_effects-end
-slice_bounds-all_effects-end c =
-    let k = equations_taken _ _ _ _ _ _ c.normal_equations.ensures c.if-normal_equations.true in
-    let room : scratch_places ≤ length c.normal_equations.new.work = omega (arith, k.1) in
-    room
+pub unwrap-room-requires : goal.unwrap-room-requires
+unwrap-room-requires c = c.first_chunk_mut.ensures.variant.1 (equations_room _ _ _ _ _ _ c.normal_equations.ensures c.if-normal_equations.true)
 
-pub all_effects-e-requires : goal.all_effects-e-requires
-all_effects-e-requires c =
-    let k = equations_taken _ _ _ _ _ _ c.normal_equations.ensures c.if-normal_equations.true in
-    length_part 0 6400 c.normal_equations.new.work (omega (arith, k.1))
+pub invariant_of-all_effects : goal.invariant_of-all_effects
+invariant_of-all_effects c =
+    let f = (equations_taken _ _ _ _ _ _ c.normal_equations.ensures c.if-normal_equations.true).0 in
+    record { in_range = (f.least_a, f.most_a, f.least_b, f.most_b) }
 
 pub returns-then-normal_equations : goal.returns-then-normal_equations
 returns-then-normal_equations c =
-    let k = equations_taken _ _ _ _ _ _ c.normal_equations.ensures c.if-normal_equations.true in
-    let room : scratch_places ≤ length c.normal_equations.new.work = omega (arith, k.1) in
-    taken _ _ _ _ _ _ c.normal_equations.ensures c.all_effects-e.new.work c.if-normal_equations.true (c.all_effects-e.auto.work ∙ length_part 0 6400 c.normal_equations.new.work room) c.all_effects-e.ensures c.wipe.ensures
+    let chunk = rw c.unwrap-room.ensures at c.first_chunk_mut.ensures.cases in
+    let here : c.unwrap-room.result.now ≡ take scratch_places c.normal_equations.new.work = chunk.same in
+    taken _ _ _ _ _ _ c.normal_equations.ensures c.if-normal_equations.true (rw here at c.all_effects.ensures)
 
-pub returns : goal.returns
-returns c =
+pub returns-else-normal_equations : goal.returns-else-normal_equations
+returns-else-normal_equations c =
     not_taken_lem _ _ _ _ _ _ c.normal_equations.ensures c.if-normal_equations.false c.no_effects.ensures
-
-pub invariant_of-levels : goal.invariant_of-levels
-invariant_of-levels c =
-    let f = (equations_taken _ _ _ _ _ _ c.normal_equations.ensures c.if-normal_equations.true).0 in
-    record { in_range = (f.least_a, f.most_a, f.least_b, f.most_b) }

@@ -4,15 +4,8 @@ use Rattle.base.proofs.Order.{was_passed, was_refused}
 use Rattle.base.specs.declared.Refusal.{Refusal}
 use Rattle.fisherline.specs.Rows.{puts}
 use Rattle.fisherline.specs.Answers.{refused_text}
-use Rattle.fisherline.proofs.Short.{too_short, too_long, answers_refusal, answers_fisher}
-use Rattle.fisherline.proofs.Spaced.{puts_length}
+use Rattle.fisherline.proofs.Short.{too_long, answers_refusal, answers_fisher}
 use Rattle.fisherline.proofs.answers.answer.Goals as goal
-
-pub returns-then-out-lt-ROOM : goal.returns-then-out-lt-ROOM
-returns-then-out-lt-ROOM c = too_short _ _ c.if-out-lt-ROOM.true
-
-pub shape_of-out-then-set-gt-LONGEST : goal.shape_of-out-then-set-gt-LONGEST
-shape_of-out-then-set-gt-LONGEST c = puts_length _ 0 _ c.refused.ensures
 
 pub returns-then-set-gt-LONGEST : goal.returns-then-set-gt-LONGEST
 returns-then-set-gt-LONGEST c =

@@ -5,9 +5,6 @@ use Rattle.fisherline.proofs.Short.{until_ss, until_df, until_ms, two_lines, thr
 use Rattle.fisherline.proofs.Spaced.{puts_more}
 use Rattle.fisherline.proofs.answers.fisher.Goals as goal
 
-pub line-ss-requires : goal.line-ss-requires
-line-ss-requires c = omega (arith, c.requires, two_lines c.args.a)
-
 pub line-df-requires : goal.line-df-requires
 line-df-requires c =
     puts_room c.args.out.now (groups_line c.args.a) (ss_line c.args.a) c.line-ss.ensures (omega (arith, c.requires, two_lines c.args.a))

@@ -1,10 +1,7 @@
 -- Each number is put where the one before it ended: what is left to put from number i on gives the whole.
-use Rattle.std.proofs.Common.{refl, ◌∙◌, arith}
+use Rattle.std.proofs.Common.{◌∙◌, arith}
 use Rattle.fisherline.proofs.Spaced.{spaced_turn, item_put, spaced_ends}
 use Rattle.fisherline.proofs.answers.put_words.Goals as goal
-
-pub loop-x-init : goal.loop-x-init
-loop-x-init g c = (refl, refl, refl)
 
 pub loop-x-preserved : goal.loop-x-preserved
 loop-x-preserved g c =

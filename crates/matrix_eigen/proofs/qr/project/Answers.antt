@@ -6,26 +6,6 @@ use Rattle.matrix_eigen.proofs.Steps.{column_projected}
 use Rattle.base.proofs.Bounds.{row_end}
 use Rattle.matrix_eigen.proofs.qr.project.Goals as goal
 
-pub overflow_mul-r : goal.overflow_mul-r
-overflow_mul-r c =
-    let row : c.args.i * c.args.n + c.args.n ≤ c.args.n * c.args.n = row_end _ c.args.n _ c.requires.0 (omega arith) in
-    omega (arith, row)
-
-pub overflow_add-r : goal.overflow_add-r
-overflow_add-r c =
-    let row : c.args.i * c.args.n + c.args.n ≤ c.args.n * c.args.n = row_end _ c.args.n _ c.requires.0 (omega arith) in
-    omega (arith, row)
-
-pub offset_bounds-r-i : goal.offset_bounds-r-i
-offset_bounds-r-i c =
-    let row : c.args.i * c.args.n + c.args.n ≤ c.args.n * c.args.n = row_end _ c.args.n _ c.requires.0 (omega arith) in
-    omega (arith, row)
-
-pub bounds-r-i : goal.bounds-r-i
-bounds-r-i c =
-    let row : c.args.i * c.args.n + c.args.n ≤ c.args.n * c.args.n = row_end _ c.args.n _ c.requires.0 (omega arith) in
-    omega (arith, row)
-
 pub returns : goal.returns
 returns c =
     let row : c.args.i * c.args.n + c.args.n ≤ c.args.n * c.args.n = row_end _ c.args.n _ c.requires.0 (omega arith) in

@@ -8,11 +8,6 @@ use Rattle.base.proofs.Bounds.{product_le}
 use Rattle.matrix_places.specs.Places.{most_contrasts}
 use Rattle.matrix_eigen.proofs.values.round.Goals as goal
 
-pub qr_columns-requires : goal.qr_columns-requires
-qr_columns-requires c =
-    let h = product_le most_contrasts most_contrasts c.requires.1.0 c.requires.1.0 in
-    (omega arith, (omega arith, (omega (arith, h), omega (arith, h))))
-
 pub returns : goal.returns
 unfolding zeros
 returns c =

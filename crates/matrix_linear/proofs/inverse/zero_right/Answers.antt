@@ -1,15 +1,16 @@
--- A turn clears one place of the right half as the definition's step does.
-use borrow.Author.Rules.{rules}
+-- The zeros come all at once: that is the definition's loop (`zero_row`).
+use Rattle.std.proofs.Common.{rules, ◌≡◌, ◌+◌, ◌-◌, ◌*◌, ◌∙◌, arith}
+use lib.ListN.{replicate, length-replicate}
+use Rattle.std.proofs.lemmas.Slice.{put_mid-paste}
+use Rattle.float.specs.Words.{plus_zero}
 use Rattle.matrix_linear.specs.Inverse.{zero_right}
-use Rattle.base.proofs.Loops.{step, ends}
+use Rattle.matrix_linear.proofs.Filled.{zero_row}
 use Rattle.matrix_linear.proofs.inverse.zero_right.Goals as goal
 
-pub loop-j-init : goal.loop-j-init
-unfolding zero_right
-loop-j-init c = search rules
-
-pub loop-j-preserved : goal.loop-j-preserved
-loop-j-preserved c = search (rules, step)
-
 pub returns : goal.returns
-returns c = search (rules, ends)
+unfolding zero_right
+returns c =
+    let a = c.args.i * (2 * c.args.n) + c.args.n in
+    let z : c.fill.new.self ≡ replicate c.args.n plus_zero = search rules in
+    put_mid-paste a (a + c.args.n - a) c.args.m.now c.fill.new.self (replicate c.args.n plus_zero) c.args.n z (omega arith) (rw length-replicate)
+    ∙ zero_row c.args.m.now a c.args.n (omega arith)

@@ -2,9 +2,8 @@
 use mathlib.Core.Path.{◌≡◌, ◌∙◌}
 use native.Mathlib.Omega.{arith}
 use mathlib.Core.List.{map}
-use lib.Ieee.{nan}
-use lib.ListN.{length, length-set, length-map}
-use Rattle.base.proofs.Fills.{fill_starts, fill_step, fill_ends}
+use lib.ListN.{length, length-map}
+use Rattle.base.proofs.Fills.{fill_starts}
 use Rattle.base.proofs.Runs.{over_all}
 use Rattle.oneway.specs.Levene.{distance}
 use Rattle.oneway.proofs.levene.put_group.Goals as goal
@@ -14,10 +13,3 @@ loop-i-init c =
     let f = distance c.args.mean in
     let n : length (map f c.args.group.now) ≡ length c.args.group.now = length-map c.args.group.now f in
     (c.requires, fill_starts f c.args.group.now c.args.out.now (omega (arith, c.requires)) ∙ over_all (map f c.args.group.now) c.args.out.now (omega (arith, c.requires, n)))
-
-pub loop-i-preserved : goal.loop-i-preserved
-loop-i-preserved c =
-    (rw length-set c.loop-i.invariant.0, fill_step _ _ nan c.loop-i.out c.loop-i.i _ c.loop-i.invariant.1 c.loop-i-test.true c.abs.ensures)
-
-pub returns : goal.returns
-returns c = fill_ends _ _ c.loop-i.out c.loop-i.i c.loop-i.invariant.1 c.loop-i-test.false

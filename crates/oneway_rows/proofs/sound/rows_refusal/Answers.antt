@@ -1,5 +1,5 @@
 -- The two tests are those of the definition, which joins them by "or" (`unsound_rows`).
-use Rattle.std.proofs.Common.{◌≡◌, true, false, refl, sym, ◌∙◌}
+use Rattle.std.proofs.Common.{◌≡◌, true, false, sym, ◌∙◌}
 use Rattle.oneway_rows.specs.Soundness.{sizes_in, unsound, sound_refusal}
 use Rattle.oneway_rows.proofs.Counted.{unsound_rows}
 use Rattle.oneway_rows.proofs.sound.rows_refusal.Goals.{then-outside-via-then-outside, then-outside-via-else-outside+then-unsound}
@@ -14,9 +14,3 @@ returns-then-outside c =
       | then-outside-via-else-outside+then-unsound w ↦ sym (unsound_rows c.args.k c.args.rows) ∙ rw (sym c.outside.ensures ∙ w.if-outside.false, sym w.unsound.ensures ∙ w.if-unsound.true)
     ] in
     rw (found, c.new.ensures)
-
-pub returns : goal.returns
-unfolding sound_refusal
-returns c =
-    let none : unsound c.args.k (sizes_in c.args.k c.args.rows) ≡ false = sym (unsound_rows c.args.k c.args.rows) ∙ rw (sym c.outside.ensures ∙ c.if-outside.false, sym c.unsound.ensures ∙ c.if-unsound.false) in
-    rw none refl

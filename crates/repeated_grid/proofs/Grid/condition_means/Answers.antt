@@ -1,22 +1,13 @@
 -- The walk over the rows leaves in place j the sum over condition j (`column_sum`); each is divided by n.
-use Rattle.std.proofs.Common.{refl, ap, ◌∙◌, slice_set}
+use Rattle.std.proofs.Common.{ap, ◌∙◌, slice_set}
 use lib.ListN.{length-set}
 use lib.Ieee.{Float}
-use Rattle.base.specs.Lists.{listed}
-use Rattle.base.proofs.Loops.{step, ends}
-use Rattle.repeated_grid.specs.Table.{no_conditions, condition_means}
+use Rattle.base.proofs.Loops.{step}
 use Rattle.repeated_grid.proofs.Columns.{column_sum}
 use Rattle.repeated_grid.proofs.Rows.{fitting}
 use Rattle.repeated_grid.proofs.Grid.condition_means.Goals as goal
-
-pub loop-j-init : goal.loop-j-init
-unfolding condition_means listed no_conditions
-loop-j-init c = (refl, refl)
 
 pub loop-j-preserved : goal.loop-j-preserved
 loop-j-preserved c =
     let sum = column_sum _ _ _ (fitting c.args.self.now) _ c.loop-j-test.true in
     (length-set _ _ _ ∙ c.loop-j.invariant.0, step _ _ _ _ _ _ c.loop-j.invariant.1 c.loop-j-test.true (ap (λ (x : Float). slice_set c.loop-j.out c.loop-j.j x) (rw (c.canon.ensures, c.condition_sums-sums.ensures, sum))))
-
-pub returns : goal.returns
-returns c = ends _ _ _ _ _ c.loop-j.invariant.1 c.loop-j-test.false

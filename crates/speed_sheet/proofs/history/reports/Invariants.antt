@@ -6,5 +6,5 @@ use Rattle.speed_sheet.proofs.history.reports.Given as goal
 
 abbrev pub invariant-loop-i : goal.invariant-loop-i
 invariant-loop-i l =
-    (length l.out ≡ length l.initial.out)
-    × (loop l.i (length l.initial.out) (reported l.kind l.edits l.fresh) (record { sheet = l.sheet; out = l.out }) ≡ loop 0 (length l.initial.out) (reported l.kind l.edits l.fresh) (record { sheet = l.initial.sheet; out = l.initial.out }))
+    loop l.i (length l.initial.out) (reported l.kind l.edits l.fresh) (record { sheet = l.sheet; out = l.out })
+    ≡ loop 0 (length l.initial.out) (reported l.kind l.edits l.fresh) (record { sheet = l.initial.sheet; out = l.initial.out })

@@ -13,31 +13,31 @@ loop-x-init c = laying_starts _ _ _ _ _ _ c.requires (search rules) (search rule
 
 pub bounds-next-c : goal.bounds-next-c
 bounds-next-c c =
-    let place = place_here _ _ _ _ _ _ c.requires _ _ _ _ _ _ c.loop-x.invariant _ _ _ c.in-Some.ensures.steps.0.0 c.in-Some.ensures.steps.0.1 c.in-Some.ensures.steps.1 in
+    let place = place_here _ _ _ _ _ _ c.requires _ _ _ _ _ _ c.loop-x.invariant _ _ _ c.in-Some.ensures.steps.0.0 c.in-Some.ensures.steps.0.1 c.in-Some.ensures.steps.1 _ c.cell_number-c.ensures in
     omega (arith, place)
 
 pub offset_bounds-scratch-at : goal.offset_bounds-scratch-at
 offset_bounds-scratch-at c =
-    let room = room_here _ _ _ _ _ _ c.requires _ _ _ _ _ _ c.loop-x.invariant _ _ _ c.in-Some.ensures.steps.0.0 c.in-Some.ensures.steps.0.1 c.in-Some.ensures.steps.1 in
+    let room = room_here _ _ _ _ _ _ c.requires _ _ _ _ _ _ c.loop-x.invariant _ _ _ c.in-Some.ensures.steps.0.0 c.in-Some.ensures.steps.0.1 c.in-Some.ensures.steps.1 _ c.cell_number-c.ensures in
     omega (arith, room)
 
 pub bounds-scratch-at : goal.bounds-scratch-at
 bounds-scratch-at c =
-    room_here _ _ _ _ _ _ c.requires _ _ _ _ _ _ c.loop-x.invariant _ _ _ c.in-Some.ensures.steps.0.0 c.in-Some.ensures.steps.0.1 c.in-Some.ensures.steps.1
+    room_here _ _ _ _ _ _ c.requires _ _ _ _ _ _ c.loop-x.invariant _ _ _ c.in-Some.ensures.steps.0.0 c.in-Some.ensures.steps.0.1 c.in-Some.ensures.steps.1 _ c.cell_number-c.ensures
 
 pub overflow_add-next : goal.overflow_add-next
 overflow_add-next c =
-    let room = room_here _ _ _ _ _ _ c.requires _ _ _ _ _ _ c.loop-x.invariant _ _ _ c.in-Some.ensures.steps.0.0 c.in-Some.ensures.steps.0.1 c.in-Some.ensures.steps.1 in
+    let room = room_here _ _ _ _ _ _ c.requires _ _ _ _ _ _ c.loop-x.invariant _ _ _ c.in-Some.ensures.steps.0.0 c.in-Some.ensures.steps.0.1 c.in-Some.ensures.steps.1 _ c.cell_number-c.ensures in
     omega (arith, room)
 
 pub bounds-next-c-in-loop-x : goal.bounds-next-c-in-loop-x
 bounds-next-c-in-loop-x c =
-    let place = place_here _ _ _ _ _ _ c.requires _ _ _ _ _ _ c.loop-x.invariant _ _ _ c.in-Some.ensures.steps.0.0 c.in-Some.ensures.steps.0.1 c.in-Some.ensures.steps.1 in
+    let place = place_here _ _ _ _ _ _ c.requires _ _ _ _ _ _ c.loop-x.invariant _ _ _ c.in-Some.ensures.steps.0.0 c.in-Some.ensures.steps.0.1 c.in-Some.ensures.steps.1 _ c.cell_number-c.ensures in
     omega (arith, place)
 
 pub loop-x-preserved : goal.loop-x-preserved
 loop-x-preserved c =
-    laying_turn _ _ _ _ _ _ c.requires _ _ _ _ _ _ c.loop-x.invariant _ _ _ c.in-Some.ensures.steps.0.0 c.in-Some.ensures.steps.0.1 c.in-Some.ensures.steps.1 _ (length-append c.loop-x.yielded _)
+    laying_turn _ _ _ _ _ _ c.requires _ _ _ _ _ _ c.loop-x.invariant _ _ _ c.in-Some.ensures.steps.0.0 c.in-Some.ensures.steps.0.1 c.in-Some.ensures.steps.1 _ c.cell_number-c.ensures _ (length-append c.loop-x.yielded _)
 
 pub returns : goal.returns
 returns c =

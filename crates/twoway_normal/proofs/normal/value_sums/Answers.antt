@@ -5,33 +5,17 @@ use native.Mathlib.Omega.{arith}
 use lib.ListN.{get_or}
 use lib.Ieee.{Float, nan}
 use mathlib.Core.Logic.{inl, inr}
-use Rattle.std.proofs.Common.{rules, sym, None, length, ◌≤◌, ◌≡◌}
+use Rattle.std.proofs.Common.{sym, None, length, ◌≤◌, ◌≡◌}
 use lib.ListN.{length-append}
 use Rattle.std.proofs.lemmas.List.{nil_from_length}
 use Rattle.std.proofs.lemmas.Slice.Zip.{either_empty_from_Zip}
 use Rattle.base.proofs.Loops.{step, ends}
 use Rattle.base.proofs.Rests.{first_left, over_at}
-use Rattle.lent.specs.Wiping.{zeros}
 use Rattle.matrix_places.specs.Places.{at}
 use Rattle.twoway_normal.specs.Counted.{cell_of}
-use Rattle.twoway_normal.proofs.Coded.{row_within}
 use Rattle.twoway_normal.proofs.Readings.{add_reading, values_walk}
 use Rattle.twoway_normal.proofs.Sizes.{cells_most}
 use Rattle.twoway_normal.proofs.normal.value_sums.Goals as goal
-
-pub overflow_mul-p : goal.overflow_mul-p
-overflow_mul-p c = omega (arith, cells_most c.args.levels.a c.args.levels.b c.requires.0.most_a c.requires.0.most_b)
-
-pub loop-y-init : goal.loop-y-init
-unfolding zeros
-loop-y-init c = (refl, refl, search rules, search rules, search rules, refl)
-
-pub overflow_mul-c : goal.overflow_mul-c
-overflow_mul-c c = omega (arith, row_within _ _ _ _ c.cell_of-c.ensures c.requires.1)
-
-pub add_value-requires : goal.add_value-requires
-add_value-requires c =
-    omega (arith, row_within _ _ _ _ c.cell_of-c.ensures c.requires.1, cells_most c.args.levels.a c.args.levels.b c.requires.0.most_a c.requires.0.most_b)
 
 pub loop-y-preserved : goal.loop-y-preserved
 unfolding add_reading

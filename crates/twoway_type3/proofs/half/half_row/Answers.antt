@@ -6,7 +6,8 @@ use Rattle.base.specs.Loop.{loop}
 use Rattle.float.specs.Words.{plus_zero}
 use Rattle.matrix_linear.specs.Inverse.{zero_at}
 use Rattle.twoway_type3.specs.Inner.{half_row}
-use Rattle.twoway_type3.proofs.Rows.{copied_row, zero_row}
+use Rattle.matrix_linear.proofs.Filled.{zero_row}
+use Rattle.twoway_type3.proofs.Rows.{copied_row}
 use Rattle.twoway_type3.proofs.half.half_row.Goals as goal
 
 pub returns : goal.returns
