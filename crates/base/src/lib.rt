@@ -1,4 +1,5 @@
 // What every other crate stands on: how a call refuses, document 01's limits, and the check of sizes beside flat readings.
+// Readings and sizes are two slices, as document 01 has them: refusal 10 tells their sums.
 #![tactic(auto)]
 
 ghost use Rattle.std.specs.Prelude.{◌≡◌, ◌-◌, take, ℕ, List, Float};
@@ -65,13 +66,14 @@ impl Refusal {
     }
 }
 
-// a - b, and 0 where b is the larger: so a formula with `k - 1` in it asks nothing of its caller.
+// a - b, and 0 where b is the larger: so a formula with `k - 1` in it asks nothing of its caller. It is public, with the edits `minus--..`.
 pub fn minus(a: u32, b: u32) -> u32
     ensures { result ≡ a - b }
 {
     a.saturating_sub(b)
 }
 
+// No chain: `sum` asks that the sum fits, and 32 bits of places times 32 bits of each are a product, which the search does not find.
 // The sum of the first n sizes, or of all where there are fewer. The sizes and n have 32 bits, so 64 cannot wrap.
 #[tactic(auto, unfolding(crate::specs::Lists::total))]
 pub fn total_of(sizes: &[u32], n: u32) -> u64
@@ -105,6 +107,7 @@ pub fn sizes_refusal(n: usize, sizes: &[u32], most: u32, which: u64) -> Result<(
 
 // The first fault of the groups that lie one after another in `readings`, as many in each as `sizes` says. `fault` is asked of each group with its number, counted from 1.
 // Where the readings give out, the groups from there on have fewer, or none.
+// `put_rows` of oneway_rows and `put_means` of oneway walk so too: one walk for all would take an `FnMut`, and each caller would have to say what it does to the memory that the closure holds.
 #[tactic(auto, using(std::proofs::lemmas::List::take_min, std::proofs::lemmas::List::drop_min, crate::proofs::Searches::found_here, crate::proofs::Searches::found_later, crate::proofs::Searches::none_left_over))]
 pub fn first_fault<F: Fn(u64, &[f64]) -> Result<(), Refusal>>(
     readings: &[f64],

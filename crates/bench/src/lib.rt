@@ -23,7 +23,7 @@ fn put_floats(out: &mut [u8], figures: &[f64])
     }
 }
 
-// An output that is too short, then the set's checks, then one-way's; nothing is written before the last of them.
+// An output that is too short, then the set's checks, then one-way's; nothing is written before the last of them. C gets the refusal's number.
 #[tactic(auto, using(base::proofs::Order::was_passed, base::proofs::Order::was_refused, crate::proofs::Writes::too_short, crate::proofs::Writes::refuses, crate::proofs::Writes::writes))]
 fn bench(set: &[u8], out: &mut [u8], kind: AnovaKind) -> u32
     ensures { (out.new, result) ≡ bench_of kind set.now out.old }

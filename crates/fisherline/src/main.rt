@@ -8,6 +8,7 @@ mod answers;
 use std::io;
 use std::io::{Read, Write};
 
+// A `while`: how much a read brings is not known before it.
 // Reads until `buf` is full or the input ends, and returns how many bytes stand at the front of `buf`. A read that fails counts as the end.
 fn read_full<R: Read>(input: &mut R, buf: &mut [u8]) -> usize
     ensures { result ≤ length buf.new }

@@ -15,6 +15,7 @@ pub fn canon(x: f64) -> f64
     if x.is_nan() { f64::NAN } else { x }
 }
 
+// The slice and k are what the clauses of its callers name: a part taken before it would ask that it is there.
 // Each of the first k places is left as it is. A NaN in them gets those bits too. Where there are not k places, nothing is done.
 pub fn canon_places(m: &mut [f64], k: usize)
     ensures { m.new ≡ m.old }
@@ -85,7 +86,7 @@ pub fn clamp(x: f64, low: f64, high: f64) -> f64
     canon(x)
 }
 
-// `x.powi(p)` for a p that is not negative, by document 01's rule.
+// `x.powi(p)` for a p that is not negative, by document 01's rule. It halves, and counts no index: no `for` has these turns.
 #[tactic(auto, using(crate::proofs::Powers::odd_turn, crate::proofs::Powers::even_turn, crate::proofs::Powers::next_turn, crate::proofs::Powers::last_turn, crate::proofs::Powers::ends), unfolding(crate::specs::Singles::power_of))]
 pub fn power(x: f64, p: u32) -> f64
     ensures { result ≡ power_of x p }

@@ -227,6 +227,7 @@ pub extern "C" fn call_gauge_study(
     studied(study::gauge_study(values, factor_a, factor_b, scratch))
 }
 
+// C hands over a number for a choice.
 #[unsafe(no_mangle)]
 pub extern "C" fn call_repeated_measures_anova(
     readings: &[f64],

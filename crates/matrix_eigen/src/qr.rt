@@ -1,5 +1,6 @@
 // Gram and Schmidt on the columns of a matrix of n rows of n places.
 // Loops go by number, as the loops of the definitions do: the two are read side by side, and a turn of one is a turn of the other.
+// A column's places lie a row apart: no slice copies them.
 ghost use Rattle.std.specs.Prelude.{◌≡◌, ◌*◌, ◌≤◌, ◌<◌, length};
 ghost use Rattle.base.specs.Limits.{scratch_places};
 ghost use Rattle.matrix_places.specs.Places.{most_contrasts};
@@ -7,7 +8,7 @@ ghost use Rattle.matrix_eigen.specs.Qr.{wiped, column_of, less_column, project, 
 
 use matrix_places::MOST_CONTRASTS;
 
-// The first k places become 0.
+// The first k places become 0. Memory and k are what the definition `wiped k m` takes.
 #[tactic(auto, using(crate::proofs::Calls::wiped_part))]
 pub fn wipe(m: &mut [f64], k: usize)
     requires { (k ≤ length m.old) × (k ≤ scratch_places) }

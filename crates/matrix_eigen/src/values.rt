@@ -1,5 +1,6 @@
 // The rounds of the QR iteration.
 // Loops go by number, as the loops of the definitions do: the two are read side by side, and a turn of one is a turn of the other.
+// A diagonal's places lie a row and one apart: no slice copies them.
 ghost use Rattle.std.specs.Prelude.{◌≡◌, ◌*◌, ◌≤◌, ◌<◌, length};
 ghost use Rattle.matrix_places.specs.Places.{most_contrasts};
 ghost use Rattle.matrix_eigen.specs.Values.{round, rounds, diagonal};

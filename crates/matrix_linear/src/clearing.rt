@@ -61,6 +61,7 @@ pub fn columns<C: Clearing>(m: &mut [f64], n: usize, w: usize) -> usize
     ensures { (m.new, result) ≡ all_counted (column_by C.by n w) n w m.old }
 {
     let mut skipped = 0;
+    // By number, as the definition's own loop goes.
     for col in 0..n {
         skipped = column::<C>(m, n, w, col, skipped);
     }

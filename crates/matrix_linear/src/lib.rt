@@ -26,14 +26,14 @@ use system::backward;
 const MOST_ROWS: usize = base::MOST_LEVELS * base::MOST_LEVELS;
 
 // Whether the rows were taken, and how many columns elimination skipped since their pivots were too small.
-// A mark and a count, and no Option: its callers add up `skipped` of calls that are always taken, and would have to say what a None counts.
+// A mark and a count, and no Option: the callers that use `skipped` make calls that are always taken, and would have to say what a None counts.
 #[derive(Clone, Copy)]
 pub struct Elimination {
     pub taken: bool,
     pub skipped: usize,
 }
 
-// Too many rows, or no room for them.
+// Too many rows, or no room for them: one private function of two zeros.
 fn not_taken() -> Elimination
     ensures { result ≡ not_taken }
 {
@@ -81,7 +81,7 @@ pub fn matrix_inverse(m: &mut [f64], n: usize) -> Elimination
 }
 
 // The determinant of n rows of n places, which are used up.
-// Too many rows, or no room for them: a NaN, and nothing is changed.
+// Too many rows, or no room for them: a NaN, as its clause says, and nothing is changed.
 #[tactic(auto, using(crate::proofs::Calls::determinant_many, crate::proofs::Calls::determinant_short, crate::proofs::Calls::determinant_taken, base::proofs::Bounds::product_le))]
 pub fn matrix_determinant(m: &mut [f64], n: usize) -> f64
     ensures { (m.new, result) ≡ matrix_determinant n m.old }

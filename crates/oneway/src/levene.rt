@@ -1,5 +1,5 @@
 // Levene's analysis: Fisher's, of the distances of the readings from their groups' means.
-// Where places are set from other places, loops go by number: of what `iter_mut().zip(..)` writes a proof knows the length alone.
+// Where places are set from other places, the place is set by its number: of what `iter_mut().zip(..)` writes a proof knows the length alone.
 ghost use Rattle.std.specs.Prelude.{◌≡◌, length};
 ghost use mathlib.Core.List.{map, flatten};
 ghost use Rattle.base.specs.Lists.{over};
@@ -31,6 +31,7 @@ fn put_distances(out: &mut [f64], far: &mut [Row], readings: &[f64], rows: &[Row
     ensures out { out.new ≡ flatten (distances_of rows.now readings.now) }
     ensures far { far.new ≡ over (map row_answer (distances_of rows.now readings.now)) far.old }
 {
+    // By its place: distances are set where the readings lie, and `split_at_mut` beside `split_at` would be no plainer.
     let mut at = 0;
     for (g, row) in rows.iter().enumerate() {
         let end = at + row.size as usize;

@@ -54,7 +54,7 @@ pub fn one_way_anova(readings: &[f64], sizes: &[u32], kind: AnovaKind) -> OneWay
 }
 
 // The analysis of k groups whose rows the caller holds already, with their readings: the same formulas, and no row is worked out anew.
-// Behind 13, readings that are not as many as the rows say are refused with 10.
+// Behind 13, readings that are not as many as the rows say are refused with 10. Rows and their number are two parameters, which its clause names.
 #[tactic(auto, using(base::proofs::Order::answers_refused, base::proofs::Order::was_passed, base::proofs::Order::was_refused, oneway_rows::proofs::Counted::sound, oneway_rows::proofs::Counted::sizes_added, crate::proofs::Summaries::small_sound, crate::proofs::Summaries::rows_taken, crate::proofs::Summaries::parted_rows, crate::proofs::Reports::ten, crate::proofs::Reports::report_unsound, crate::proofs::Reports::report_sound), unfolding(crate::specs::Anova::rows_report))]
 pub fn report(
     rows: [Row; base::MOST_GROUPS],

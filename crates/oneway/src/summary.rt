@@ -1,5 +1,5 @@
 // What every analysis tells of its groups, from their rows. Zeros stand behind the groups' numbers.
-// Where places are set from other places, loops go by number: of what `iter_mut().zip(..)` writes a proof knows the length alone.
+// Where places are set from other places, the place is set by its number: of what `iter_mut().zip(..)` writes a proof knows the length alone.
 ghost use Rattle.std.specs.Prelude.{◌≡◌, ◌≤◌, map, length};
 ghost use Rattle.std.specs.List.{sum_by};
 ghost use Rattle.base.specs.Lists.{cut, over};
@@ -9,7 +9,7 @@ ghost use Rattle.oneway.specs.Inner.{Small, mean_row};
 
 use oneway_rows::Row;
 
-// How many readings the rows stand for.
+// How many readings the rows stand for, in 32 bits as the answer has them: these rows are sound.
 pub fn n_total(rows: &[Row]) -> u32
     requires { Small rows.now }
     ensures { result ≡ sum_by size_of rows.now }

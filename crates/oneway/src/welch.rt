@@ -1,5 +1,5 @@
 // Welch's analysis, which lets the groups' variances differ: each group has a weight.
-// Where places are set from other places, loops go by number: of what `iter_mut().zip(..)` writes a proof knows the length alone.
+// Where places are set from other places, the place is set by its number: of what `iter_mut().zip(..)` writes a proof knows the length alone.
 ghost use Rattle.std.specs.Prelude.{◌≡◌, ◌≤◌, length};
 ghost use Rattle.base.specs.Limits.{most_groups};
 ghost use Rattle.base.specs.Lists.{over};

@@ -1,6 +1,6 @@
 // One-way data: the row that each group is worked into, and the rows of all groups.
 // Readings and sizes are two slices, as document 01 has them: refusal 10 tells their sums.
-// Where places are set from other places, loops go by number: of what `iter_mut().zip(..)` writes a proof knows the length alone.
+// Where places are set from other places, the place is set by its number: of what `iter_mut().zip(..)` writes a proof knows the length alone.
 #![tactic(auto)]
 
 pub mod sound;
@@ -79,7 +79,7 @@ pub fn put_rows(out: &mut [Row], readings: &[f64], sizes: &[u32])
     }
 }
 
-// No `impl From<Refusal>`, which would be no plainer: one private function has one caller, and a `From` would be one more public promise.
+// No `impl From<Refusal>`: one private function with one caller is enough.
 #[tactic(auto, unfolding(crate::specs::Rows::empty_rows))]
 fn refused(refusal: Refusal) -> GroupStats
     ensures { result ≡ refused_stats refusal }

@@ -25,7 +25,7 @@ fn any_outside(rows: &[Row]) -> bool
     ))
 }
 
-// A size outside, or a sum of more than 512. The sizes have 32 bits, so 64 cannot wrap.
+// A size outside, or a sum of more than 512. The sizes have 32 bits, so 64 cannot wrap: other sums of sizes, of sound rows, need not be so wide.
 fn unsound(rows: &[Row]) -> bool
     requires { length rows.now ≤ most_groups }
     ensures { result ≡ (list_any size_outside rows.now || ltb most_readings (sum_by size_of rows.now)) }
@@ -34,7 +34,7 @@ fn unsound(rows: &[Row]) -> bool
         || (base::MOST_READINGS as u64) < rows.iter().map(|row| row.size as u64).sum::<u64>()
 }
 
-// The check of the first k rows.
+// The check of the first k rows. Rows and their number are two parameters, which its clause names.
 #[tactic(auto, using(crate::proofs::Counted::unsound_rows), unfolding(crate::specs::Soundness::sound_refusal))]
 pub fn rows_refusal(rows: [Row; base::MOST_GROUPS], k: usize) -> Result<(), Refusal>
     ensures { result ≡ verdict (sound_refusal k rows) }

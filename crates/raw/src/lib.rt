@@ -339,7 +339,7 @@ fn hand_out_effects(e: Effects, out: &mut [f64]) {
     lent::put(out, &[e.ss_a, e.ss_b, e.ss_ab]);
 }
 
-// Counts, as many as there are places for.
+// Counts, as many as there are places for. Two slices of the shorter length would be no plainer.
 fn put_counts(counts: &mut [u64], numbers: &[u64]) {
     for (place, n) in counts.iter_mut().zip(numbers) {
         *place = *n;

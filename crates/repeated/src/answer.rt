@@ -8,6 +8,7 @@ use base::Refusal;
 use repeated_grid::RmTable;
 use results::Corrections;
 
+// A `bool`: the clause of `repeated_measures_anova` has it, and the record's mark is the same.
 // Is sphericity worked out? Two conditions have one contrast, which is always spherical.
 fn asked(compute_sphericity: bool, k: usize) -> bool
     ensures { result ≡ asked compute_sphericity k }

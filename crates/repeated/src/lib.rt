@@ -1,4 +1,5 @@
 // Repeated-measures analysis of variance: one row of readings a subject, one column a condition.
+// Readings and sizes are two slices, as document 01 has them: refusal 10 tells their sums.
 #![tactic(auto)]
 
 mod answer;
@@ -31,7 +32,7 @@ pub struct RmAnovaResult {
     pub subject_means: [f64; base::MOST_SUBJECTS],
 }
 
-// The answer that carries a refusal alone. No `From<Refusal>`: one private function with one caller; a `From` would be one more public promise.
+// The answer that carries a refusal alone. No `From<Refusal>`: one private function with one caller is enough.
 #[tactic(auto, unfolding(crate::specs::Results::refused_result, repeated_grid::specs::Table::no_conditions, repeated_grid::specs::Table::no_subjects))]
 fn refused(refusal: Refusal) -> RmAnovaResult
     ensures { result ≡ refused_result refusal }

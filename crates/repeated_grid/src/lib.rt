@@ -1,5 +1,5 @@
 // Repeated measures: the table of subjects and conditions.
-// Where places are set from other places, loops go by number: of what `iter_mut().zip(..)` writes a proof knows the length alone.
+// Rows go by number: `chunks_exact` would ask that k is not 0.
 #![tactic(auto)]
 
 ghost use Rattle.std.specs.Prelude.{◌≡◌, ◌*◌, ◌<◌, ◌≤◌, length};
@@ -112,7 +112,7 @@ fn add_row(sums: &mut [f64], row: &[f64])
     }
 }
 
-// Zeros, which the clause of `rm_table` wants where the rows are not taken.
+// Zeros, which the clause of `rm_table` wants where the rows are not taken. A private function is enough: a `Default` would be public.
 #[tactic(auto, unfolding(crate::specs::Table::no_subjects, crate::specs::Table::no_conditions))]
 fn no_table() -> RmTable
     ensures { result ≡ no_table }

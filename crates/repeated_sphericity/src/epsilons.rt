@@ -23,6 +23,7 @@ fn square_sum(values: &[f64]) -> f64
     values.iter().map(|value| value * value).sum()
 }
 
+// p is a parameter, as in the definition `gg_raw p vs`.
 // The squared sum over p times the sum of squares, unless that is too small or a NaN.
 #[tactic(auto, unfolding(crate::specs::Epsilons::gg_raw))]
 fn gg_raw(values: &[f64], p: usize) -> f64

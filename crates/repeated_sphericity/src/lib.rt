@@ -11,6 +11,7 @@ use epsilons::Design;
 use mauchly::Csc;
 use results::{CorrectedResult, Corrections};
 
+// F and its degrees of freedom stay three parameters, which the clause of `compute_sphericity_corrections` names one by one.
 // One corrected analysis. The epsilons are canonical, F may be any NaN.
 fn corrected(f_stat: f64, df_num: f64, df_den: f64, epsilon: f64) -> CorrectedResult
     ensures { result ≡ corrected f_stat df_num df_den epsilon }
@@ -48,7 +49,7 @@ fn corrections_of(
 }
 
 // The corrections of n subjects and k conditions: the readings subject by subject, the conditions' means, and the F with its degrees of freedom.
-// Nothing but zeros where the sizes are not taken.
+// Nothing but zeros where the sizes are not taken, as its clause says: the record that document 01 fixes has zeros there.
 #[tactic(auto, using(crate::proofs::Fitted::two_conditions, crate::proofs::Fitted::not_taken_lem, crate::proofs::Fitted::sizes_taken, crate::proofs::Fitted::known), unfolding(crate::specs::Corrections::csc, matrix_eigen::specs::Values::zeros))]
 pub fn compute_sphericity_corrections(
     readings: &[f64],

@@ -179,6 +179,7 @@ pub struct Corrections {
     pub huynh_feldt: CorrectedResult,
 }
 
+// Zeros, as `no_corrections` has them: one private function with one caller.
 fn no_corrected() -> CorrectedResult
     ensures { result ≡ no_corrected }
 {

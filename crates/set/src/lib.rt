@@ -1,5 +1,5 @@
 // The reading set: one-way data as bytes. First the contents, the group count and each group's size in two bytes; then the readings, eight bytes each. All little endian.
-// Where places are set from other places, loops go by number: of what `iter_mut().zip(..)` writes a proof knows the length alone.
+// Where places are set from other places, the place is set by its number: of what `iter_mut().zip(..)` writes a proof knows the length alone.
 #![tactic(auto)]
 
 ghost use Rattle.std.specs.Prelude.{◌≡◌, map, ◌≤◌, ◌*◌, length};

@@ -16,7 +16,7 @@ use oneway_rows::Row;
 // One reading more than there are places for.
 const OVER: usize = Sheet::PLACES + 1;
 
-// How many readings these rows stand for.
+// How many readings these rows stand for, as a place: no sum of oneway is public.
 fn readings_of(rows: &[Row]) -> usize
     requires { length rows.now ≤ most_groups }
     ensures { result ≡ sum_by size_of rows.now }

@@ -41,6 +41,7 @@ impl Sheet {
         Row::empty()
     }
 
+    // Readings and sizes are two slices, as document 01 has them.
     // The sheet of groups that pass one-way's checks; the zero sheet where they do not.
     #[tactic(auto, using(crate::proofs::Loaded::load_refused, crate::proofs::Loaded::load_made), unfolding(crate::specs::Sheets::zero_places))]
     pub fn load(readings: &[f64], sizes: &[u32]) -> Edit

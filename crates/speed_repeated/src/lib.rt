@@ -7,7 +7,7 @@ ghost use Rattle.speed_repeated.specs.Calls.{timed};
 // How many numbers an analysis hands out: F, three sums of squares, W, two epsilons, and degrees of freedom.
 const PLACES: usize = 8;
 
-// One analysis, with sphericity where `sphericity` is 1: 0 and its numbers, or the number of a refusal and `out` as it was.
+// C hands over a number for a choice. One analysis, with sphericity where `sphericity` is 1: 0 and its numbers, or the number of a refusal and `out` as it was.
 #[tactic(auto, using(base::proofs::Order::was_passed, base::proofs::Order::was_refused, crate::proofs::Laid::accepted, crate::proofs::Laid::refused), unfolding(crate::specs::Calls::timed))]
 #[unsafe(no_mangle)]
 pub extern "C" fn speed_repeated(

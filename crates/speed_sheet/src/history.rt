@@ -33,6 +33,7 @@ fn reports(s: Sheet, edits: &[u32], fresh: &[f64], out: &mut [f64], kind: AnovaK
     ensures { out.new ≡ reports_of kind edits.now fresh.now s out.old }
 {
     let mut sheet = s;
+    // The three numbers of an edit by their number: one that is missing counts as 0.
     for (i, place) in out.iter_mut().enumerate() {
         sheet = edited(
             sheet,

@@ -8,7 +8,7 @@ ghost use Rattle.stats.specs.Figures.{mean_refusal, variance_refusal, counted, f
 
 use base::Refusal;
 
-// One number, or the refusal in its place.
+// One number, or the refusal in its place. Document 01 fixes this record, with a refusal beside a zero.
 #[derive(Clone, Copy)]
 pub struct Figure {
     pub refusal: Refusal,

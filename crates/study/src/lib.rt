@@ -25,7 +25,7 @@ pub struct GaugeStudy {
     pub component_total: f64,
 }
 
-// The answer that carries a refusal alone. A private function is enough: a `From<Refusal>` would be one more public promise.
+// The answer that carries a refusal alone. A private function with one caller is enough: no `From<Refusal>`.
 fn refused(refusal: Refusal) -> GaugeStudy
     ensures { result ≡ refused_study refusal }
 {

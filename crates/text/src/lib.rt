@@ -6,6 +6,7 @@ ghost use Rattle.std.specs.Prelude.{◌≡◌, ◌<◌, ◌≤◌, length};
 ghost use Rattle.text.specs.Numbers.{glyph, digits, width_of, hex_of, numeral_of};
 ghost use Rattle.text.specs.Put.{put_of};
 
+// Its clause says that `at` stands for a text that does not fit.
 // Lays src over out from `at` on, and answers the place behind it. Where src does not fit there, out stays as it is, and
 // the answer is `at`.
 #[tactic(auto, unfolding(crate::specs::Put::put_of))]
@@ -60,7 +61,7 @@ fn fill(out: &mut [u8], base: u64, n: u64)
     ensures { out.new ≡ digits base (length out.old) n }
 {
     let mut rest = n;
-    // By an index: of what an adapter of `iter_mut` writes a proof knows nothing.
+    // By an index: of what `iter_mut().rev()` writes a proof knows the length alone.
     for i in (0..out.len()).rev() {
         out[i] = digit(rest % base);
         rest /= base;

@@ -34,7 +34,7 @@ pub struct TwoWayAnovaResult {
     pub skips: Skips,
 }
 
-// The answer that carries a refusal alone. A private function is enough: a `From<Refusal>` would be one more public promise.
+// The answer that carries a refusal alone. A private function with one caller is enough: no `From<Refusal>`.
 #[tactic(auto, unfolding(crate::specs::Results::refused_result, twoway_means::specs::Table::no_cells, twoway_means::specs::Table::no_levels))]
 fn refused(refusal: Refusal) -> TwoWayAnovaResult
     ensures { result ≡ refused_result refusal }

@@ -5,7 +5,7 @@ ghost use Rattle.twoway.specs.Inner.{squares_left, Ready};
 use results::Effects;
 
 // Of a by b cells with these means and counts. They are two slices: the means are a field of the record of twoway_means, the counts one of that of
-// twoway_checks. The scratch is left wiped.
+// twoway_checks. The numbers of levels are two parameters, as in the calls of twoway_balanced and twoway_type3. The scratch is left wiped.
 #[tactic(auto, using(crate::proofs::Design::balanced_way, crate::proofs::Design::type3_way))]
 pub fn squares(
     values: &[f64],

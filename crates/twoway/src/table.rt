@@ -8,6 +8,7 @@ use base::Refusal;
 use results::Effects;
 use twoway_means::CellTable;
 
+// The numbers of levels are two parameters, as in the definition `answer_of`.
 #[tactic(auto, using(crate::proofs::Counts::less_few, crate::proofs::Counts::some, float::proofs::Counts::small_count, base::proofs::Bounds::product_le), unfolding(crate::specs::Results::answer_of))]
 pub fn answer(values: &[f64], a: usize, b: usize, t: CellTable, e: Effects) -> TwoWayAnovaResult
     requires { Small values.now a b }

@@ -52,7 +52,7 @@ fn mean_margins(means: &[f64], m: usize, e: usize, d: usize, n: usize) -> [f64; 
     out
 }
 
-// What the cells of one row, the first of them s, add to the interaction.
+// What the cells of one row, the first of them s, add to the interaction: the definition `ab_row` takes s and b too.
 #[tactic(auto, using(crate::proofs::Lines::among_row, crate::proofs::Lines::row_at, crate::proofs::Lines::row_long, std::proofs::lemmas::Slice::Zip::zip_turn, std::proofs::lemmas::Slice::Zip::zip_end, base::proofs::Loops::step, base::proofs::Loops::ends), unfolding(crate::specs::Squares::ab_row))]
 fn ab_row(
     t: f64,
@@ -115,7 +115,7 @@ fn effects_of(means: &[f64], r: usize, a: usize, b: usize) -> Effects
 }
 
 // The effects of A, B and their interaction, from the means of a by b cells of r readings each.
-// Zeros where there are too many levels, too many readings a cell, or not a mean for each cell.
+// Zeros, as its clause says, where there are too many levels, too many readings a cell, or not a mean for each cell.
 #[tactic(auto, unfolding(crate::specs::Squares::balanced_ss))]
 pub fn balanced_ss(means: &[f64], r: usize, a: usize, b: usize) -> Effects
     ensures { result ≡ balanced_ss means.now r a b }

@@ -15,7 +15,7 @@ use twoway_checks::TwoWayData;
 pub const STARTS: usize = base::MOST_CELLS + 1;
 
 // Where each cell begins, if the cells lie one after another and have as many readings as `counts` says; behind the last, where all end. Nothing but zeros
-// where there are over 36 cells, or over 512 readings in all.
+// where there are over 36 cells, or over 512 readings in all, as its clause says.
 #[tactic(auto, using(base::proofs::Cuts::total_split, base::proofs::Sizes::total_next, base::proofs::Sizes::total_whole, crate::proofs::Starts::sums_start, crate::proofs::Starts::sums_turn, crate::proofs::Starts::sums_end, crate::proofs::Starts::too_many, crate::proofs::Starts::too_long, crate::proofs::Starts::told), unfolding(crate::specs::Starts::no_starts, base::specs::Lists::total))]
 pub fn starts_of(counts: &[usize]) -> [usize; STARTS]
     ensures { result ≡ starts_of counts.now }

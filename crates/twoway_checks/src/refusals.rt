@@ -6,6 +6,7 @@ ghost use Rattle.twoway_checks.specs.Checks.{largest, shape_refusal, levels_refu
 
 use base::Refusal;
 
+// A fold from 0, which is what no codes have: `max()` would hand back an Option.
 // The largest code. All of them are looked at, so that the compiler can take several at a time.
 #[tactic(auto, using(crate::proofs::Codes::largest_fold))]
 pub fn largest_of(codes: &[u32]) -> u32

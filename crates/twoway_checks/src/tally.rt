@@ -10,6 +10,7 @@ pub fn cell_number(a: u32, b: u32, levels_b: u32) -> usize
     (a as usize) * (levels_b as usize) + (b as usize)
 }
 
+// Not one function with the counting of twoway_normal, which takes codes beyond the levels.
 pub fn count_cells(factor_a: &[u32], factor_b: &[u32], levels_b: u32) -> [usize; base::MOST_CELLS]
     requires { Coded factor_a.now factor_b.now levels_b }
     ensures { result ≡ tally (keys levels_b factor_a.now factor_b.now) }

@@ -119,6 +119,7 @@ impl<'a> Cells<'a> {
         t
     }
 
+    // Not one function with `mean_margins` of twoway_balanced: that one adds means, this one adds readings and counts them.
     // The mean of all readings at each of m levels: the levels' first cells lie e apart, and a level's n cells d apart.
     #[tactic(auto, using(base::proofs::Bounds::row_end, base::proofs::Loops::step, base::proofs::Loops::ends), unfolding(crate::specs::Table::margins, base::specs::Lists::listed, crate::specs::Table::no_levels))]
     fn margins(&self, m: usize, e: usize, d: usize, n: usize) -> [f64; base::MOST_LEVELS]

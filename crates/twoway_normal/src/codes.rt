@@ -1,5 +1,5 @@
 // The row of the design matrix that the readings of a cell have, by effect coding.
-// Where places are set from their numbers, loops go by number: `iter_mut().enumerate()` would have the number too, and is no plainer.
+// Loops go by number: places are set from their numbers, where `iter_mut().enumerate()` would be no plainer, and one loop calls a step by its number.
 ghost use Rattle.std.specs.Prelude.{◌≡◌, ◌-◌, ◌≤◌, ◌<◌};
 ghost use Rattle.base.specs.Limits.{most_levels};
 ghost use Rattle.twoway_normal.specs.Coding.{effect_code, codes_from, products_of, products, design_row};

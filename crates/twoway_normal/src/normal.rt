@@ -1,5 +1,5 @@
 // The normal equations. X'X is taken from the counts of the cells, X'y reading by reading.
-// Where places are set from other places, loops go by number: of what `iter_mut().zip(..)` writes a proof knows the length alone.
+// Where places are set from other places, loops go by number: of what `iter_mut().zip(..)` writes a proof knows the length alone. One loop calls a step by its number.
 ghost use Rattle.std.specs.Prelude.{◌≡◌, ◌+◌, ◌*◌, ◌≤◌, ◌<◌, length};
 ghost use Rattle.base.specs.Limits.{scratch_places};
 ghost use Rattle.float.specs.Words.{◌⊗◌};
@@ -71,7 +71,7 @@ fn product(code: f64, y: f64) -> f64
     code * y
 }
 
-// The codes from place q on, each times y, are added to p sums.
+// The codes from place q on, each times y, are added to p sums: the definition `add_value` takes q and p too.
 #[tactic(auto, using(base::proofs::Loops::step, base::proofs::Loops::ends, crate::proofs::Heads::part_here, crate::proofs::Heads::part_long), unfolding(crate::specs::Inner::add_value))]
 fn add_value(rows: &[f64], q: usize, p: usize, y: f64, sums: &mut [f64])
     requires { (q + p ≤ length rows.now) × (p ≤ length sums.old) }

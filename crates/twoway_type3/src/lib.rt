@@ -13,7 +13,7 @@ use results::Effects;
 use twoway_normal::Levels;
 
 // The sums of squares of a by b levels. The first 6,400 places of the lent memory are used, and left as +0.0.
-// What does not fit gives +0.0 for each, and the memory stays as it is.
+// What does not fit gives +0.0 for each, as its clause says, and the memory stays as it is.
 pub fn type3_ss(
     values: &[f64],
     factor_a: &[u32],
