@@ -86,7 +86,7 @@ fn fisher(out: &mut [u8], a: OneWayAnovaResult) -> usize
     line(out, f, b"f", &[a.statistic])
 }
 
-// The answer to a set, as text at the front of out. The result is its length; where out has fewer than ROOM places nothing is written, and it is 0.
+// The answer to a set, as text at the front of out. The result is its length; where out has fewer than ROOM places nothing is written, and it is 0, as its clause says.
 #[tactic(auto, using(base::proofs::Order::was_passed, base::proofs::Order::was_refused, crate::proofs::Short::too_short, crate::proofs::Short::too_long, crate::proofs::Short::answers_refusal, crate::proofs::Short::answers_fisher, crate::proofs::Spaced::puts_length))]
 pub fn answer(set: &[u8], out: &mut [u8]) -> usize
     ensures { (out.new, result) ≡ answer_of set.now out.old }

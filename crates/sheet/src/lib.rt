@@ -34,7 +34,7 @@ impl Sheet {
 
     pub const ROWS: usize = base::MOST_GROUPS;
 
-    // The row of no group, which stands behind the groups' rows.
+    // The row of no group, which stands behind the groups' rows: `Row::empty` again. It stays: it is public, with its clause and the edits `Sheet.empty_row--..`.
     pub fn empty_row() -> Row
         ensures { result ≡ empty_row }
     {
