@@ -31,6 +31,7 @@ pub fn put_columns(sizes: &mut [u32], means: &mut [f64], rows: &[Row])
     }
 }
 
+// It walks from group to group as `base::first_fault` does: one walk for all would take an `FnMut`, and this one would have to say what it does to `out`.
 // Puts the rows of groups that passed the checks, without their squares, into their places.
 #[tactic(auto, using(base::proofs::Cuts::total_turn, oneway_rows::proofs::Laid::laid_start, oneway_rows::proofs::Laid::laid_turn, oneway_rows::proofs::Laid::laid_done, crate::proofs::Summaries::told_row, crate::proofs::Summaries::told_rows))]
 pub fn put_means(out: &mut [Row], readings: &[f64], sizes: &[u32])
