@@ -105,22 +105,28 @@ pub fn sizes_refusal(n: usize, sizes: &[u32], most: u32, which: u64) -> Result<(
     Ok(())
 }
 
-// The first fault of the groups that lie one after another in `readings`, as many in each as `sizes` says. `fault` is asked of each group with its number, counted from 1.
+// What a check asks of a group of readings with this number: its fault, or none.
+// It is a trait and no closure: of a closure the search would have to ask that it may be called, and no public function asks anything.
+pub trait Check {
+    ghost use Rattle.base.specs.declared.Refusal.{Refusal};
+
+    ghost fault: { Self → ℕ → List Float → Refusal };
+
+    fn ask(&self, number: u64, group: &[f64]) -> Result<(), Refusal>
+        ensures { result ≡ verdict (fault self.now number group.now) };
+}
+
+// The first fault of the groups that lie one after another in `readings`, as many in each as `sizes` says. Each group is asked with its number, counted from 1.
 // Where the readings give out, the groups from there on have fewer, or none.
 // `put_rows` of oneway_rows and `put_means` of oneway walk so too: one walk for all would take an `FnMut`, and each caller would have to say what it does to the memory that the closure holds.
 #[tactic(auto, using(std::proofs::lemmas::List::take_min, std::proofs::lemmas::List::drop_min, crate::proofs::Searches::found_here, crate::proofs::Searches::found_later, crate::proofs::Searches::none_left_over))]
-pub fn first_fault<F: Fn(u64, &[f64]) -> Result<(), Refusal>>(
-    readings: &[f64],
-    sizes: &[u32],
-    fault: F,
-) -> Result<(), Refusal>
-    requires { (i : ℕ) (group : _) → F.pre fault i group }
-    ensures { (says : ℕ → List Float → Refusal) → ((i : ℕ) (group : _) (told : _) → F.post fault i group told → told ≡ verdict (says i group.now)) → result ≡ verdict (first_fault says 1 (cut sizes.now readings.now)) }
+pub fn first_fault<C: Check>(readings: &[f64], sizes: &[u32], check: &C) -> Result<(), Refusal>
+    ensures { result ≡ verdict (first_fault (C.fault check.now) 1 (cut sizes.now readings.now)) }
 {
     let mut rest = readings;
     for (g, size) in sizes.iter().enumerate() {
         let (group, behind) = rest.split_at((*size as usize).min(rest.len()));
-        fault(g as u64 + 1, group)?;
+        check.ask(g as u64 + 1, group)?;
         rest = behind;
     }
     Ok(())

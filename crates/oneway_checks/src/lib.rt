@@ -8,21 +8,28 @@ ghost use Rattle.base.specs.Refusals.{verdict};
 ghost use Rattle.oneway_checks.specs.Inner.{sought_fault};
 ghost use Rattle.oneway_checks.specs.Checks.{groups_refusal, one_way_refusal, view_refusal, view_of};
 
-use base::Refusal;
+use base::{Check, Refusal};
 
-// Group number k, counted from 1: fewer than two readings, or a NaN, for which it looks only where `nans` says that there may be one.
-// `nans` is a parameter so that no reading is looked at twice where none is a NaN.
-fn group_fault(k: u64, group: &[f64], nans: bool) -> Result<(), Refusal>
-    ensures { result ≡ verdict (sought_fault nans k group.now) }
-{
-    let fewest = base::FEWEST_READINGS;
-    if group.len() < fewest {
-        return Err(Refusal::new(2, fewest as u64, group.len() as u64));
+// The check of a group: fewer than two readings, or a NaN, for which it looks only where `nans` says that there may be one.
+// `nans` is there so that no reading is looked at twice where none is a NaN.
+#[derive(Clone, Copy)]
+struct GroupCheck {
+    nans: bool,
+}
+
+impl Check for GroupCheck {
+    ghost fault = { λ check. sought_fault check.nans };
+
+    fn ask(&self, number: u64, group: &[f64]) -> Result<(), Refusal> {
+        let fewest = base::FEWEST_READINGS;
+        if group.len() < fewest {
+            return Err(Refusal::new(2, fewest as u64, group.len() as u64));
+        }
+        if self.nans && stats::has_nan(group) {
+            return Err(Refusal::new(4, number, 0));
+        }
+        Ok(())
     }
-    if nans && stats::has_nan(group) {
-        return Err(Refusal::new(4, k, 0));
-    }
-    Ok(())
 }
 
 // The first group that has a fault. Where no reading is a NaN, the groups are not searched for one.
@@ -30,7 +37,7 @@ fn groups_refusal(readings: &[f64], sizes: &[u32]) -> Result<(), Refusal>
     ensures { result ≡ verdict (groups_refusal 1 (cut sizes.now readings.now)) }
 {
     let nans = stats::has_nan(readings);
-    base::first_fault(readings, sizes, |k, group| group_fault(k, group, nans))
+    base::first_fault(readings, sizes, &GroupCheck { nans })
 }
 
 // The one-way checks, in document 01's order.

@@ -65,7 +65,7 @@ impl Row {
 // Where there are fewer readings than the sizes say, the last groups are shorter.
 // The walk from group to group stands in `base::first_fault` and in oneway's `put_means` too. One for all would take an `FnMut`,
 // and each caller would have to say what that does to the memory that the closure holds.
-// One for the two that put rows would be public with a `requires`, as it takes a closure: `first_fault` is the only such function.
+// One for the two that put rows would be public with a `requires`, as it takes a closure: no public function has one.
 #[tactic(auto, using(std::proofs::lemmas::List::take_min, std::proofs::lemmas::List::drop_min, crate::proofs::Laid::laid_start, crate::proofs::Laid::laid_turn, crate::proofs::Laid::laid_done), unfolding(crate::specs::Rows::rows_put))]
 pub fn put_rows(out: &mut [Row], readings: &[f64], sizes: &[u32])
     ensures { out.new ≡ rows_put readings.now sizes.now out.old }

@@ -8,7 +8,7 @@ ghost use Rattle.base.specs.Refusals.{verdict};
 ghost use Rattle.repeated_checks.specs.Inner.{sought_fault};
 ghost use Rattle.repeated_checks.specs.Checks.{conditions, design_refusal, subjects_refusal, repeated_refusal};
 
-use base::Refusal;
+use base::{Check, Refusal};
 
 // The readings of the first subject, of which there may be none.
 fn conditions(sizes: &[u32]) -> u64
@@ -34,17 +34,25 @@ fn design_refusal(n: u64, k: u64) -> Result<(), Refusal>
     Ok(())
 }
 
-// Subject number i, counted from 1: not k readings, or a NaN, for which it looks only where `nans` says that there may be one.
-fn subject_fault(k: u64, i: u64, row: &[f64], nans: bool) -> Result<(), Refusal>
-    ensures { result ≡ verdict (sought_fault k nans i row.now) }
-{
-    if row.len() as u64 != k {
-        return Err(Refusal::new(9, i, row.len() as u64));
+// The check of a subject: not k readings, or a NaN, for which it looks only where `nans` says that there may be one.
+#[derive(Clone, Copy)]
+struct SubjectCheck {
+    k: u64,
+    nans: bool,
+}
+
+impl Check for SubjectCheck {
+    ghost fault = { λ check. sought_fault check.k check.nans };
+
+    fn ask(&self, number: u64, row: &[f64]) -> Result<(), Refusal> {
+        if row.len() as u64 != self.k {
+            return Err(Refusal::new(9, number, row.len() as u64));
+        }
+        if self.nans && stats::has_nan(row) {
+            return Err(Refusal::new(4, number, 0));
+        }
+        Ok(())
     }
-    if nans && stats::has_nan(row) {
-        return Err(Refusal::new(4, i, 0));
-    }
-    Ok(())
 }
 
 // The first subject that has a fault. Where no reading is a NaN, the rows are not searched for one.
@@ -52,7 +60,7 @@ fn subjects_refusal(readings: &[f64], sizes: &[u32], k: u64) -> Result<(), Refus
     ensures { result ≡ verdict (subjects_refusal k 1 (cut sizes.now readings.now)) }
 {
     let nans = stats::has_nan(readings);
-    base::first_fault(readings, sizes, |i, row| subject_fault(k, i, row, nans))
+    base::first_fault(readings, sizes, &SubjectCheck { k, nans })
 }
 
 // The checks of repeated measures, in document 01's order. The rows lie one after another, subject by subject, and `sizes` are their lengths.
