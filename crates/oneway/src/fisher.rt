@@ -42,8 +42,8 @@ pub fn fisher_anova(rows: &[Row], readings: &[f64]) -> OneWayAnovaResult
     let grand_mean = float::canon(stats::sum(readings) / (n_total as f64));
     let ss_between = ss_between(rows, grand_mean);
     let ss_within = ss_within(rows);
-    let df_between = (k as u32).saturating_sub(1) as f64;
-    let df_within = n_total.saturating_sub(k as u32) as f64;
+    let df_between = base::minus(k as u32, 1) as f64;
+    let df_within = base::minus(n_total, k as u32) as f64;
     let ms_between = float::canon(ss_between / df_between);
     let ms_within = float::canon(ss_within / df_within);
     OneWayAnovaResult {

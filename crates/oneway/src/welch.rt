@@ -38,7 +38,7 @@ pub struct WelchTest {
 fn weigh(row: &Row, k: u32) -> Weighed
     ensures { result ≡ weigh k row.now }
 {
-    let variance = row.sq_dev / (row.size.saturating_sub(1) as f64);
+    let variance = row.sq_dev / (base::minus(row.size, 1) as f64);
     let weight = if variance < 1e-15 {
         f64::MAX / (k as f64)
     } else {
@@ -94,7 +94,7 @@ fn adjustment(rows: &[Weighed], sum_weights: f64) -> f64
         rows.iter()
             .map(|row| {
                 let d = 1.0 - row.weight / sum_weights;
-                d * d / (row.size.saturating_sub(1) as f64)
+                d * d / (base::minus(row.size, 1) as f64)
             })
             .sum(),
     )
@@ -116,11 +116,11 @@ fn welch_test(k: u32, sums: WelchSums) -> WelchTest
     requires { k ≤ most_groups }
     ensures { result ≡ welch_test k sums }
 {
-    let df_between = k.saturating_sub(1) as f64;
+    let df_between = base::minus(k, 1) as f64;
     let f_numerator = sums.spread / df_between;
-    let k_squared_less_one = (k * k).saturating_sub(1) as f64;
+    let k_squared_less_one = base::minus(k * k, 1) as f64;
     let lambda = sums.adjustment * 3.0 / k_squared_less_one;
-    let f_stat = f_numerator / (1.0 + 2.0 * lambda * (k.saturating_sub(2) as f64) / 3.0);
+    let f_stat = f_numerator / (1.0 + 2.0 * lambda * (base::minus(k, 2) as f64) / 3.0);
     let df_within = k_squared_less_one / (3.0 * sums.adjustment);
     WelchTest {
         statistic: float::canon(f_stat),
