@@ -14,12 +14,15 @@ pub fn wipe(work: &mut [f64])
 }
 
 // The numbers, put into the first places: the places behind keep what they hold. Where there is no room for all of them, nothing is changed.
-#[tactic(auto, unfolding(crate::specs::Laying::laid))]
+// Place by place: `copy_from_slice` would have a host link `memmove`.
+#[tactic(auto, using(base::proofs::Fills::fill_starts, base::proofs::Fills::fill_step, base::proofs::Fills::fill_ends, crate::proofs::Lays::all_put), unfolding(crate::specs::Laying::laid))]
 pub fn put(out: &mut [f64], numbers: &[f64])
     ensures { out.new ≡ laid numbers.now out.old }
 {
     let n = numbers.len();
     if n <= out.len() {
-        out[..n].copy_from_slice(numbers);
+        for (i, x) in numbers.iter().enumerate() {
+            out[i] = *x;
+        }
     }
 }
