@@ -8,7 +8,7 @@
 #include <string.h>
 
 enum {
-    CANON, CANON_PLACES, ABS, LEAST, GREATEST, CLAMP, POWER, FLOAT_OF, ROOT, PUT, WIPE, SUM, SQ_DEV, MEAN, VARIANCE, REFUSED, EMPTY_ROWS, ROW, VALIDATE, PUT_ROWS, FISHER, WELCH, LEVENE,
+    CANON, CANON_PLACES, ABS, LEAST, GREATEST, CLAMP, POWER, FLOAT_OF, ROOT, PUT, WIPE, SUM, SQ_DEV, MEAN, VARIANCE, FIGURE, REFUSED, EMPTY_ROWS, ROW, VALIDATE, PUT_ROWS, FISHER, WELCH, LEVENE,
     REPORT_FISHER, REPORT_WELCH, REPORT_LEVENE, VIEW, LOAD, EDIT, SHEET_FISHER, SHEET_WELCH, SHEET_LEVENE, READ_SET, SET_FISHER, SET_WELCH, SET_LEVENE, EFFECT_ROW, PLAIN_ROW, NO_ROW, NO_EFFECTS, CELL_TABLE, BALANCED_SS,
     NORMAL_EQUATIONS, TYPE3_SS, ORGANIZE, ORGANIZE_REFUSED, TWO_WAY, TWO_WAY_UNBALANCED, TWO_WAY_REFUSED, STUDY, STUDY_REFUSED, RM_TABLE, REPEATED, REPEATED_SPHERICITY, COVARIANCE,
     CORRECTIONS, NO_CORRECTIONS, SOLVE, INVERSE, DETERMINANT, DOT, LESS_ROW, OVER_ROW, ORTHONORMALIZE, PRODUCT, CSC, QR, EIGENVALUES, RAW
@@ -25,7 +25,7 @@ static struct call raw[RAW] = {
     CALL(GREATEST, "float::greatest", 1, 1), CALL(CLAMP, "float::clamp", 1, 1), CALL(POWER, "float::power", 1, 1), CALL(FLOAT_OF, "float::float_of", 1, 1),
     CALL(ROOT, "root::sqrt", 1, 1), CALL(FISHER, "one_way_anova, Fisher", 25, 23), CALL(WELCH, "one_way_anova, Welch", 25, 18),
     CALL(LEVENE, "one_way_anova, Levene", 25, 23),
-    KEEP(PUT, "lent::put", 0, 0), CALL(WIPE, "lent::wipe", 0, 0), CALL(REFUSED, "results::refused", 25, 0), CALL(EMPTY_ROWS, "Row::empty, Sheet::empty_row", 4, 0),
+    CALL(FIGURE, "Figure::from", 1, 1), KEEP(PUT, "lent::put", 0, 0), CALL(WIPE, "lent::wipe", 0, 0), CALL(REFUSED, "results::refused", 25, 0), CALL(EMPTY_ROWS, "Row::empty, Sheet::empty_row", 4, 0),
     CALL(NO_ROW, "results::no_row", 4, 0), CALL(NO_EFFECTS, "results::no_effects", 3, 0), CALL(NO_CORRECTIONS, "results::no_corrections", 10, 0),
     CALL(SUM, "stats::sum", 1, 1), CALL(SQ_DEV, "stats::sq_dev", 1, 1), CALL(MEAN, "stats::mean", 1, 1), CALL(VARIANCE, "stats::variance", 1, 1),
     CALL(ROW, "Row::of", 2, 2), CALL(VALIDATE, "validate_anova_groups", 32, 32), CALL(PUT_ROWS, "put_rows", 32, 32), CALL(REPORT_FISHER, "oneway::report, Fisher", 25, 23),
@@ -136,6 +136,7 @@ static void ask_floats(struct set *s, uint64_t a, uint64_t b, uint64_t c) {
     gave(LEAST, s, raw_least(x, y)), gave(GREATEST, s, raw_greatest(x, y)), gave(CLAMP, s, raw_clamp(x, y, z));
     gave(ROOT, s, raw_sqrt(x)), gave(ROOT, s, raw_sqrt(y)), gave(ROOT, s, raw_sqrt(z));
     for (unsigned i = 0; i < sizeof powers / sizeof *powers; i++) gave(POWER, s, raw_power(x, powers[i]));
+    took(FIGURE, s, raw_figure(x, LENT(one, 1)), 0), wrote(FIGURE, s, &one, 1, 0);
     raw_effect_row(x, y, z, LENT(one, 4 + BEHIND)), took(EFFECT_ROW, s, 0, 0), wrote(EFFECT_ROW, s, &one, 4, 0);
     raw_plain_row(x, y, LENT(one, 4 + BEHIND)), took(PLAIN_ROW, s, 0, 0), wrote(PLAIN_ROW, s, &one, 4, 0);
 }

@@ -12,6 +12,7 @@ use results::{
     AnovaTableRow, CorrectedResult, Corrections, Effects, OneWayAnovaResult, SphericityResult,
 };
 use sheet::{Edit, Sheet};
+use stats::Figure;
 use twoway::TwoWayAnovaResult;
 
 // ---- single floats
@@ -95,6 +96,15 @@ pub extern "C" fn raw_mean(readings: &[f64], out: &mut [f64]) -> u32 {
 #[unsafe(no_mangle)]
 pub extern "C" fn raw_variance(readings: &[f64], out: &mut [f64]) -> u32 {
     let r = stats::variance(readings);
+    lent::put(out, &[r.value]);
+    r.refusal.number
+}
+
+// The record of a number.
+#[unsafe(no_mangle)]
+pub extern "C" fn raw_figure(x: f64, out: &mut [f64]) -> u32 {
+    let number: Result<f64, Refusal> = Ok(x);
+    let r = Figure::from(number);
     lent::put(out, &[r.value]);
     r.refusal.number
 }
