@@ -20,8 +20,9 @@ pub fn lay(
     ensures { scratch.new ≡ over (flatten (sorted (keys levels_b factor_a.now factor_b.now) values.now)) scratch.old }
 {
     let mut next = crate::starts_of(counts);
-    for ((x, a), b) in values.iter().zip(factor_a).zip(factor_b) {
-        let c = cell_number(*a, *b, levels_b);
+    // Both codes by the reading's number: a `zip` of three lists takes a fifth more instructions.
+    for (i, x) in values.iter().enumerate() {
+        let c = cell_number(factor_a[i], factor_b[i], levels_b);
         let at = next[c];
         scratch[at] = *x;
         next[c] = at + 1;
